@@ -1,0 +1,4 @@
+pub mod Data
+pub mod Execute
+pub mod Machine
+pub mod Step

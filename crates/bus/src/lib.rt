@@ -1,0 +1,36 @@
+// The bus of an LM32 board: what every bus means, and the makes of bus.
+mod access;
+mod block;
+mod cache;
+mod fault;
+mod fork;
+mod interface;
+mod kind;
+mod lanes;
+mod line;
+mod number;
+mod port;
+mod ram;
+mod rom;
+mod size;
+mod timer;
+
+pub use cache::Cache;
+pub use cache::CacheBus;
+pub use fault::Cause;
+pub use fault::Fault;
+pub use fault::Home;
+pub use fault::Layer;
+pub use fork::Fork;
+pub use fork::ForkBus;
+pub use interface::Bus;
+pub use kind::Kind;
+pub use port::Port;
+pub use port::PortBus;
+pub use ram::Ram;
+pub use ram::RamBus;
+pub use rom::Rom;
+pub use rom::RomBus;
+pub use size::Size;
+pub use timer::Timer;
+pub use timer::TimerBus;

@@ -1,0 +1,9 @@
+pub mod Config
+pub mod Configured
+pub mod Csr
+pub mod Enable
+pub mod Entry
+pub mod Exception
+pub mod Flow
+pub mod Pending
+pub mod State

@@ -1,0 +1,3 @@
+-- The lemmas on hexadecimal text.
+pub mod Inverse
+pub mod Reading

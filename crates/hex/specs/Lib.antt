@@ -1,0 +1,2 @@
+-- The definitions that the contracts of hexadecimal text cite.
+pub mod Digits

@@ -1,0 +1,9 @@
+pub mod Decode
+pub mod Encode
+pub mod Fields
+pub mod Opcodes
+pub mod Operations
+pub mod Refusal
+pub mod ReservedWords
+pub mod Unused
+pub mod Words

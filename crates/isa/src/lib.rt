@@ -1,0 +1,38 @@
+// The LM32 instruction set: which instruction a word is, and which word an instruction is.
+mod csr_number;
+mod decode;
+mod encode;
+mod forms;
+mod instruction;
+mod low_bits;
+mod offset26;
+mod opcode;
+mod opcode_table;
+mod operation;
+mod register;
+mod reserved;
+mod round_trip;
+mod shift_amount;
+mod word_fields;
+
+pub use csr_number::CsrNumber;
+pub use instruction::Instruction;
+pub use offset26::Offset26;
+pub use operation::BinaryOp;
+pub use operation::BranchOp;
+pub use operation::DivideOp;
+pub use operation::ExtendOp;
+pub use operation::HighOp;
+pub use operation::ImmediateOp;
+pub use operation::JumpOp;
+pub use operation::LoadOp;
+pub use operation::Operation;
+pub use operation::RaiseOp;
+pub use operation::RegisterOp;
+pub use operation::ShiftOp;
+pub use operation::StoreOp;
+pub use register::Register;
+pub use reserved::Reserved;
+pub use round_trip::redecode;
+pub use round_trip::reencode;
+pub use shift_amount::ShiftAmount;

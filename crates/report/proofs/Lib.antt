@@ -1,0 +1,3 @@
+-- The lemmas on the text of a trace.
+pub mod Numerals
+pub mod Totals

@@ -1,0 +1,3 @@
+// Tests of the text that a trace prints, at numbers and lines written out.
+#[cfg(test)]
+mod tests;
