@@ -68,7 +68,12 @@ fn extend_operand(op: BinaryOp, value: u16) -> u32
         | BinaryOp::Or
         | BinaryOp::Cmpgeu
         | BinaryOp::Cmpgu => value as u32,
-        BinaryOp::Mul | BinaryOp::Add | BinaryOp::Cmpe | BinaryOp::Cmpg | BinaryOp::Cmpge | BinaryOp::Cmpne => sign_extend_half(value),
+        BinaryOp::Mul
+        | BinaryOp::Add
+        | BinaryOp::Cmpe
+        | BinaryOp::Cmpg
+        | BinaryOp::Cmpge
+        | BinaryOp::Cmpne => sign_extend_half(value),
     }
 }
 

@@ -1,4 +1,6 @@
+pub mod Counter
 pub mod Data
 pub mod Execute
+pub mod Load
 pub mod Machine
 pub mod Step

@@ -11,10 +11,10 @@ use bus::Size;
 use cpu::Processor;
 use cpu::Trouble;
 use cpu::TroubleFromFault;
-use isa::Instruction;
-use isa::Register;
 use isa::ExtendOp;
+use isa::Instruction;
 use isa::LoadOp;
+use isa::Register;
 use isa::StoreOp;
 
 pub(crate) fn load_size(op: LoadOp) -> Size
@@ -54,7 +54,13 @@ pub(crate) fn data_address(processor: &Processor, base: Register, offset: u16) -
 }
 
 impl<B: Bus> Board<B> {
-    pub(crate) fn load_data(&mut self, op: LoadOp, base: Register, offset: u16, to: Register) -> Result<(), Trouble>
+    pub(crate) fn load_data(
+        &mut self,
+        op: LoadOp,
+        base: Register,
+        offset: u16,
+        to: Register,
+    ) -> Result<(), Trouble>
         requires { ⌜ B·Bus .sound (now self .bus) ⌝ }
         ensures sound { λ _. ⌜ B·Bus .sound (now (self .exit) .bus) ⌝ }
         ensures state { λ _. ⌜ seen (B·Bus .means) (now (self .exit)) ≡ orStay (seen (B·Bus .means) (now (self .entry))) (executed (B·Bus .rules) (seen (B·Bus .means) (now (self .entry))) (Instruction.Load op base offset to)) ⌝ }
@@ -66,7 +72,13 @@ impl<B: Bus> Board<B> {
         Ok(())
     }
 
-    pub(crate) fn store_data(&mut self, op: StoreOp, base: Register, offset: u16, from: Register) -> Result<(), Trouble>
+    pub(crate) fn store_data(
+        &mut self,
+        op: StoreOp,
+        base: Register,
+        offset: u16,
+        from: Register,
+    ) -> Result<(), Trouble>
         requires { ⌜ B·Bus .sound (now self .bus) ⌝ }
         ensures sound { λ _. ⌜ B·Bus .sound (now (self .exit) .bus) ⌝ }
         ensures state { λ _. ⌜ seen (B·Bus .means) (now (self .exit)) ≡ orStay (seen (B·Bus .means) (now (self .entry))) (executed (B·Bus .rules) (seen (B·Bus .means) (now (self .entry))) (Instruction.Store op base offset from)) ⌝ }

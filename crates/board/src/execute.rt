@@ -39,8 +39,18 @@ fn is_aligned(processor: &Processor, instruction: Instruction) -> bool
     ensures { λ r. ⌜ r ≡ aligned (now (processor .entry)) instruction ⌝ }
 {
     match instruction {
-        Instruction::Load { op, base, offset, .. } => multiple(load_size(op), data_address(processor, base, offset)),
-        Instruction::Store { op, base, offset, .. } => multiple(store_size(op), data_address(processor, base, offset)),
+        Instruction::Load {
+            op,
+            base,
+            offset,
+            ..
+        } => multiple(load_size(op), data_address(processor, base, offset)),
+        Instruction::Store {
+            op,
+            base,
+            offset,
+            ..
+        } => multiple(store_size(op), data_address(processor, base, offset)),
         _ => true,
     }
 }
@@ -87,19 +97,53 @@ impl<B: Bus> Board<B> {
         ensures answer { λ r. ⌜ r ≡ told (executed (B·Bus .rules) (seen (B·Bus .means) (now (self .entry))) instruction) ⌝ }
     {
         match instruction {
-            Instruction::Immediate { op, from, value, to } => {
+            Instruction::Immediate {
+                op,
+                from,
+                value,
+                to,
+            } => {
                 let value = compute_immediate(op, self.processor.get(from), value);
                 self.processor.result(to, value);
             }
-            Instruction::ShiftImmediate { op, from, amount, to } => {
+            Instruction::ShiftImmediate {
+                op,
+                from,
+                amount,
+                to,
+            } => {
                 let value = shift(op, self.processor.get(from), amount.places as u32);
                 self.processor.result(to, value);
             }
-            Instruction::Load { op, base, offset, to } => self.load_data(op, base, offset, to)?,
-            Instruction::Store { op, base, offset, from } => self.store_data(op, base, offset, from)?,
-            Instruction::Branch { op, left, right, offset } => self.processor.branch(op, left, right, offset),
-            Instruction::Register { op, left, right, to } => {
-                let value = compute_register(op, self.processor.get(left), self.processor.get(right))?;
+            Instruction::Load {
+                op,
+                base,
+                offset,
+                to,
+            } => self.load_data(op, base, offset, to)?,
+            Instruction::Store {
+                op,
+                base,
+                offset,
+                from,
+            } => self.store_data(op, base, offset, from)?,
+            Instruction::Branch {
+                op,
+                left,
+                right,
+                offset,
+            } => self.processor.branch(op, left, right, offset),
+            Instruction::Register {
+                op,
+                left,
+                right,
+                to,
+            } => {
+                let value = compute_register(
+                    op,
+                    self.processor.get(left),
+                    self.processor.get(right),
+                )?;
                 self.processor.result(to, value);
             }
             Instruction::Extend { op, from, to } => {

@@ -2,6 +2,7 @@
 ghost use mathlib.Core.Path.{_≡_};
 ghost use Rattle.isa.specs.Decode.{decoded};
 ghost use Rattle.cpu.specs.State.{reset};
+ghost use Rattle.board.specs.Counter.{counterAfter, UnchangedByStop};
 ghost use Rattle.board.specs.Execute.{executed};
 ghost use Rattle.board.specs.Machine.{seen, machine};
 ghost use Rattle.board.specs.Step.{pend, noted, departed, takes, stops, ifDecoded, ifExecuted, settled, fetched, stepped};
@@ -131,6 +132,8 @@ impl<B: Bus> Board<B> {
         requires { ⌜ B·Bus .sound (now self .bus) ⌝ }
         ensures sound { λ _. ⌜ B·Bus .sound (now (self .exit) .bus) ⌝ }
         ensures state { λ _. ⌜ seen (B·Bus .means) (now (self .exit)) ≡ stepped (B·Bus .rules) (seen (B·Bus .means) (now (self .entry))) .1 ⌝ }
+        ensures counter { λ r. ⌜ now (self .exit) .processor .status .cc ≡ counterAfter r (now (self .entry) .processor .status .cc) ⌝ }
+        ensures stop { λ r. ⌜ UnchangedByStop r (seen (B·Bus .means) (now (self .entry))) (seen (B·Bus .means) (now (self .exit))) ⌝ }
         ensures answer { λ r. ⌜ r ≡ stepped (B·Bus .rules) (seen (B·Bus .means) (now (self .entry))) .0 ⌝ }
     {
         let lines = self.processor.pending(self.bus.lines());

@@ -31,11 +31,11 @@ pub held-set : (ls : List (Option Line)) (a w b : ℕ) → length ls ≡ 256 →
 held-set ls a w b len =
     ⊎-elim
     (λ e. let there : getD (set ls (setOf a) (entry (a / 4) w)) (setOf b) None ≡ entry (a / 4) w =
-              ap (λ x. getD (set ls (setOf a) (entry (a / 4) w)) x None) e ∙ getD-set-same ls (setOf a) (entry (a / 4) w) None (omega arith) in
-          ap (λ o. isSome (wordFor (b / 4) o)) there ∙ some-cond (eqb (a / 4) (b / 4)) w ∙ eqb-swap (a / 4) (b / 4)
-          ∙ sym (ap (λ t. cond t (eqb (b / 4) (a / 4)) (isHeld ls b)) (eq-eqb (setOf b) (setOf a) e)))
+    ap (λ x. getD (set ls (setOf a) (entry (a / 4) w)) x None) e ∙ getD-set-same ls (setOf a) (entry (a / 4) w) None (omega arith) in
+    ap (λ o. isSome (wordFor (b / 4) o)) there ∙ some-cond (eqb (a / 4) (b / 4)) w ∙ eqb-swap (a / 4) (b / 4)
+    ∙ sym (ap (λ t. cond t (eqb (b / 4) (a / 4)) (isHeld ls b)) (eq-eqb (setOf b) (setOf a) e)))
     (λ e. ap (λ o. isSome (wordFor (b / 4) o)) (getD-set-other ls (setOf a) (setOf b) (entry (a / 4) w) None e)
-          ∙ sym (ap (λ t. cond t (eqb (b / 4) (a / 4)) (isHeld ls b)) (ne-eqb (setOf b) (setOf a) e)))
+    ∙ sym (ap (λ t. cond t (eqb (b / 4) (a / 4)) (isHeld ls b)) (ne-eqb (setOf b) (setOf a) e)))
     (cases-eq (setOf b) (setOf a))
 
 -- the tag of a line that serves
@@ -45,7 +45,7 @@ tag-of (Some l) t w u e =
     ⊎-elim
     (λ q. some-cond (eqb (l .tag) u) (l .word) ∙ ap (λ x. eqb x u) (eqb-true (l .tag) t q) ∙ eqb-swap t u)
     (λ q. let none : None ≡ Some w = rw q at e in
-          let z : _≡_ {A = ℕ} 0 1 = cc in absurd (omega arith))
+    let z : _≡_ {A = ℕ} 0 1 = cc in absurd (omega arith))
     (cases-bool (eqb (l .tag) t))
 
 -- putting in a word that is held changes nothing held
@@ -54,6 +54,6 @@ pub held-hit : (ls : List (Option Line)) (a w b : ℕ) → heldWord ls a ≡ Som
 held-hit ls a w b h =
     ⊎-elim
     (λ e. ap (λ x. isSome (wordFor (b / 4) (getD ls x None))) e ∙ tag-of (getD ls (setOf a) None) (a / 4) w (b / 4) h
-          ∙ sym (ap (λ t. cond t (eqb (b / 4) (a / 4)) (isHeld ls b)) (eq-eqb (setOf b) (setOf a) e)))
+    ∙ sym (ap (λ t. cond t (eqb (b / 4) (a / 4)) (isHeld ls b)) (eq-eqb (setOf b) (setOf a) e)))
     (λ e. sym (ap (λ t. cond t (eqb (b / 4) (a / 4)) (isHeld ls b)) (ne-eqb (setOf b) (setOf a) e)))
     (cases-eq (setOf b) (setOf a))

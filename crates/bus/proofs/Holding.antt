@@ -103,9 +103,9 @@ module _ {M : Type 0} (r : Rules M) (laws : Laws r) where
   parts m b zero k h = refl
   parts m b (suc n) k h =
       let here : byteIn (wordBytes (number (bytesAt r m b 4))) k ≡ r .byte m (b + k) =
-          ap (λ ws. getD ws k 0 % 256) (bytes-of-word m b) ∙ ap (λ x. x % 256) (byte-of-word m b k (omega arith)) ∙ omega (arith, laws .byte-fits m (b + k)) in
+      ap (λ ws. getD ws k 0 % 256) (bytes-of-word m b) ∙ ap (λ x. x % 256) (byte-of-word m b k (omega arith)) ∙ omega (arith, laws .byte-fits m (b + k)) in
       let rest : bytesIn (wordBytes (number (bytesAt r m b 4))) (k + 1) n ≡ bytesAt r m (b + k + 1) n =
-          parts m b n (k + 1) (omega arith) ∙ ap (λ x. bytesAt r m x n) (omega arith) in
+      parts m b n (k + 1) (omega arith) ∙ ap (λ x. bytesAt r m x n) (omega arith) in
       ap (λ x. x ∷ bytesIn (wordBytes (number (bytesAt r m b 4))) (k + 1) n) here ∙ ap (λ xs. r .byte m (b + k) ∷ xs) rest
 
   -- a read of ROM or memory by way of the whole word
@@ -115,7 +115,7 @@ module _ {M : Type 0} (r : Rules M) (laws : Laws r) where
       let steady : isSteady (r .kind m a) ≡ true = ap isSteady (laws .word-kind m a) ∙ st in
       let at : a / 4 * 4 + a % 4 ≡ a = omega arith in
       let same : bytesIn (wordBytes w) (a % 4) (width s) ≡ bytesAt r m a (width s) =
-          ap (λ x. bytesIn (wordBytes x) (a % 4) (width s)) e ∙ parts m (a / 4 * 4) (width s) (a % 4) (inside s a al) ∙ ap (λ x. bytesAt r m x (width s)) at in
+      ap (λ x. bytesIn (wordBytes x) (a % 4) (width s)) e ∙ parts m (a / 4 * 4) (width s) (a % 4) (inside s a al) ∙ ap (λ x. bytesAt r m x (width s)) at in
       rw (eq-eqb (a % width s) 0 al) (read-steady (r .kind m a) (r .home m a) _ steady ∙ ap (λ bs. Ok (number bs)) (sym same))
 
   -- the word below an aligned address of ROM or memory can be read
@@ -131,11 +131,11 @@ module _ {M : Type 0} (r : Rules M) (laws : Laws r) where
   right-word m k t w (Some l) h e =
       ⊎-elim
       (λ q. let tag : l .tag ≡ t = eqb-true (l .tag) t q in
-            let word : Some (l .word) ≡ Some w = rw q at e in
-            let is : l .word ≡ w = cc in
-            subst (λ x. (isSteady (r .kind m (x * 4)) ≡ true) × (w ≡ number (bytesAt r m (x * 4) 4))) tag (h .1, sym is ∙ h .2))
+      let word : Some (l .word) ≡ Some w = rw q at e in
+      let is : l .word ≡ w = cc in
+      subst (λ x. (isSteady (r .kind m (x * 4)) ≡ true) × (w ≡ number (bytesAt r m (x * 4) 4))) tag (h .1, sym is ∙ h .2))
       (λ q. let none : None ≡ Some w = rw q at e in
-            let z : _≡_ {A = ℕ} 0 1 = cc in absurd (omega arith))
+      let z : _≡_ {A = ℕ} 0 1 = cc in absurd (omega arith))
       (cases-bool (eqb (l .tag) t))
 
   -- a held word serves every read of it
@@ -151,8 +151,8 @@ module _ {M : Type 0} (r : Rules M) (laws : Laws r) where
   right-set m ls a w right len st e k =
       ⊎-elim
       (λ q. subst (RightLine r m k)
-            (sym (ap (λ x. getD (set ls (setOf a) (entry (a / 4) w)) x None) q ∙ getD-set-same ls (setOf a) (entry (a / 4) w) None (omega arith)))
-            (sym q, st, e))
+      (sym (ap (λ x. getD (set ls (setOf a) (entry (a / 4) w)) x None) q ∙ getD-set-same ls (setOf a) (entry (a / 4) w) None (omega arith)))
+      (sym q, st, e))
       (λ q. subst (RightLine r m k) (sym (getD-set-other ls (setOf a) k (entry (a / 4) w) None q)) (right k))
       (cases-eq k (setOf a))
 
@@ -198,8 +198,10 @@ module _ {M : Type 0} (r : Rules M) (laws : Laws r) where
   pub right-ticked : (m : M) (ls : List (Option Line)) → Right r m ls → Right r (r .ticked m) ls
   right-ticked m ls right k =
       line-kept m (r .ticked m) k (getD ls k None)
-      (λ t st. (ap isSteady (laws .ticked-kind m (t * 4)) ∙ st,
-                ap number (same-four m (r .ticked m) (t * 4) (λ j h. sym (laws .ticked-byte m (t * 4 + j) (steady-byte m t j h st))))))
+      (λ t st. (
+        ap isSteady (laws .ticked-kind m (t * 4)) ∙ st,
+        ap number (same-four m (r .ticked m) (t * 4) (λ j h. sym (laws .ticked-byte m (t * 4 + j) (steady-byte m t j h st)))),
+      ))
       (right k)
 
   stored-kinds : (m : M) (a : ℕ) (bs : List ℕ) (c : ℕ) → r .kind (storedAll r m a bs) c ≡ r .kind m c
@@ -225,11 +227,11 @@ module _ {M : Type 0} (r : Rules M) (laws : Laws r) where
   stored-agrees [] m ws b k h len lt takes agree = agree
   stored-agrees (x ∷ xs) m ws b k h len lt takes agree =
       let first : Agree (r .stored m (b + k) x) (set ws k x) b = λ j hj.
-          ⊎-elim
-          (λ e. ap (λ i. r .byte (r .stored m (b + k) x) (b + i)) e ∙ laws .stored-here m (b + k) x (lt .0) (takes k (omega arith))
-                ∙ sym (ap (λ i. getD (set ws k x) i 0) e ∙ getD-set-same ws k x 0 (omega arith)))
-          (λ e. laws .stored-there m (b + k) x (b + j) (λ q. e (omega arith)) ∙ agree j hj ∙ sym (getD-set-other ws k j x 0 e))
-          (cases-eq j k) in
+      ⊎-elim
+      (λ e. ap (λ i. r .byte (r .stored m (b + k) x) (b + i)) e ∙ laws .stored-here m (b + k) x (lt .0) (takes k (omega arith))
+      ∙ sym (ap (λ i. getD (set ws k x) i 0) e ∙ getD-set-same ws k x 0 (omega arith)))
+      (λ e. laws .stored-there m (b + k) x (b + j) (λ q. e (omega arith)) ∙ agree j hj ∙ sym (getD-set-other ws k j x 0 e))
+      (cases-eq j k) in
       let kinds : Takes (r .stored m (b + k) x) b = λ j hj. subst Writable (sym (laws .stored-kind m (b + k) x (b + j))) (takes j hj) in
       let at : b + (k + 1) ≡ b + k + 1 = omega arith in
       subst (λ c. Agree (storedAll r (r .stored m (b + k) x) c xs) (patched (set ws k x) (k + 1) xs) b) at
@@ -250,13 +252,13 @@ module _ {M : Type 0} (r : Rules M) (laws : Laws r) where
       let bytes : wordBytes w ≡ bytesAt r m b 4 = ap wordBytes e ∙ bytes-of-word m b in
       let before : Agree m (wordBytes w) b = λ j h. sym (ap (λ ws. getD ws j 0) bytes ∙ byte-of-word m b j h) in
       let kinds : Takes m b = λ j h.
-          let same : (b + j) / 4 * 4 ≡ b = omega arith in
-          subst Writable (laws .word-kind m a ∙ sym (laws .word-kind m (b + j) ∙ ap (r .kind m) same)) wr in
+      let same : (b + j) / 4 * 4 ≡ b = omega arith in
+      subst Writable (laws .word-kind m a ∙ sym (laws .word-kind m (b + j) ∙ ap (r .kind m) same)) wr in
       let after : Agree (storedAll r m (b + a % 4) (lowBytes s v)) (patched (wordBytes w) (a % 4) (lowBytes s v)) b =
-          stored-agrees (lowBytes s v) m (wordBytes w) b (a % 4) (rw low-length (inside s a al)) refl (low-below s v) kinds before in
+      stored-agrees (lowBytes s v) m (wordBytes w) b (a % 4) (rw low-length (inside s a al)) refl (low-below s v) kinds before in
       let at : b + a % 4 ≡ a = omega arith in
       let there : Agree (storedAll r m a (lowBytes s v)) (patched (wordBytes w) (a % 4) (lowBytes s v)) b =
-          subst (λ c. Agree (storedAll r m c (lowBytes s v)) (patched (wordBytes w) (a % 4) (lowBytes s v)) b) at after in
+      subst (λ c. Agree (storedAll r m c (lowBytes s v)) (patched (wordBytes w) (a % 4) (lowBytes s v)) b) at after in
       ap number (sym (four-agree (storedAll r m a (lowBytes s v)) (patched (wordBytes w) (a % 4) (lowBytes s v)) b (length-patched (wordBytes w) (a % 4) (lowBytes s v)) there))
 
   -- a line of another word than the one written stays right
@@ -266,11 +268,12 @@ module _ {M : Type 0} (r : Rules M) (laws : Laws r) where
   line-elsewhere m s a v al k (Some l) other h =
       let ne : l .tag ≡ a / 4 → ⊥ = other l refl in
       let ins = inside s a al in
-      let len = low-length s v in
-      (h .0,
-       ap isSteady (stored-kinds m a (lowBytes s v) (l .tag * 4)) ∙ h .1,
-       h .2 ∙ ap number (same-four m (storedAll r m a (lowBytes s v)) (l .tag * 4)
-         (λ j hj. sym (stored-outside m a (lowBytes s v) (l .tag * 4 + j) (beside (l .tag) a j (width s) (length (lowBytes s v)) ne hj ins len)))))
+      let len = low-length s v in (
+        h .0,
+        ap isSteady (stored-kinds m a (lowBytes s v) (l .tag * 4)) ∙ h .1,
+        h .2 ∙ ap number (same-four m (storedAll r m a (lowBytes s v)) (l .tag * 4)
+            (λ j hj. sym (stored-outside m a (lowBytes s v) (l .tag * 4 + j) (beside (l .tag) a j (width s) (length (lowBytes s v)) ne hj ins len)))),
+      )
 
   tag-set : (m : M) (k t : ℕ) (o : Option Line) (l : Line) → RightLine r m k o → o ≡ Some l → l .tag ≡ t → k ≡ t % 256
   tag-set m k t o l h e q = let h′ : RightLine r m k (Some l) = subst (RightLine r m k) e h in sym (h′ .0) ∙ ap (λ x. x % 256) q
@@ -285,14 +288,14 @@ module _ {M : Type 0} (r : Rules M) (laws : Laws r) where
       let n = storedAll r m a (lowBytes s v) in
       let new = entry (a / 4) (number (patched (wordBytes w) (a % 4) (lowBytes s v))) in
       let here : RightLine r n (setOf a) new =
-          (refl, ap isSteady (stored-kinds m a (lowBytes s v) (a / 4 * 4)) ∙ is .0, merged m s a v w al (parts .1) (is .1)) in
+      (refl, ap isSteady (stored-kinds m a (lowBytes s v) (a / 4 * 4)) ∙ is .0, merged m s a v w al (parts .1) (is .1)) in
       let there : RightLine r n k (getD (set ls (setOf a) new) k None) =
-          ⊎-elim
-          (λ q. subst (RightLine r n k) (sym (ap (λ x. getD (set ls (setOf a) new) x None) q ∙ getD-set-same ls (setOf a) new None (omega arith)))
-                (subst (λ x. RightLine r n x new) (sym q) here))
-          (λ q. subst (RightLine r n k) (sym (getD-set-other ls (setOf a) k new None q))
-                (line-elsewhere m s a v al k (getD ls k None) (λ l e p. q (tag-set m k (a / 4) (getD ls k None) l (right k) e p)) (right k)))
-          (cases-eq k (setOf a)) in
+      ⊎-elim
+      (λ q. subst (RightLine r n k) (sym (ap (λ x. getD (set ls (setOf a) new) x None) q ∙ getD-set-same ls (setOf a) new None (omega arith)))
+      (subst (λ x. RightLine r n x new) (sym q) here))
+      (λ q. subst (RightLine r n k) (sym (getD-set-other ls (setOf a) k new None q))
+      (line-elsewhere m s a v al k (getD ls k None) (λ l e p. q (tag-set m k (a / 4) (getD ls k None) l (right k) e p)) (right k)))
+      (cases-eq k (setOf a)) in
       subst (λ x. RightLine r x k (getD (set ls (setOf a) new) k None)) (sym after) there
 
   -- the same where the word written is not held
@@ -304,13 +307,13 @@ module _ {M : Type 0} (r : Rules M) (laws : Laws r) where
       let after : written r m s a v ≡ storedAll r m a (lowBytes s v) = accepts m m (storedAll r m a (lowBytes s v)) s a ok in
       subst (λ n. RightLine r n k (getD ls k None)) (sym after)
       (line-elsewhere m s a v al k (getD ls k None)
-       (λ l e p.
-        let here : k ≡ setOf a = tag-set m k (a / 4) (getD ls k None) l (right k) e p in
-        let line : getD ls (setOf a) None ≡ Some l = ap (λ x. getD ls x None) (sym here) ∙ e in
-        let found : wordFor (a / 4) (Some l) ≡ None = sym (ap (wordFor (a / 4)) line) ∙ held in
-        let some : Some (l .word) ≡ None = rw (eq-eqb (l .tag) (a / 4) p) at found in
-        let z : _≡_ {A = ℕ} 0 1 = cc in omega arith)
-       (right k))
+      (λ l e p.
+      let here : k ≡ setOf a = tag-set m k (a / 4) (getD ls k None) l (right k) e p in
+      let line : getD ls (setOf a) None ≡ Some l = ap (λ x. getD ls x None) (sym here) ∙ e in
+      let found : wordFor (a / 4) (Some l) ≡ None = sym (ap (wordFor (a / 4)) line) ∙ held in
+      let some : Some (l .word) ≡ None = rw (eq-eqb (l .tag) (a / 4) p) at found in
+      let z : _≡_ {A = ℕ} 0 1 = cc in omega arith)
+      (right k))
 
   -- what is held after a read that is kept
   after-kept : (m : M) (ls : List (Option Line)) (s : Size) (a x b : ℕ) → readAnswer r m s a ≡ Ok x → isSteady (r .kind m a) ≡ true →

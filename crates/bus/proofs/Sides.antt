@@ -65,8 +65,8 @@ module _ {L H : Type 0} (l : Rules L) (h : Rules H) where
       let here : isLow m a ≡ true = lt-ltb a (border m) lt in
       rw here
       (where-true (eqb (a % width s) 0) _ _ _
-       (λ al. ap (λ bs. readable (l .kind (m .low) a) (l .home (m .low) a) (number bs))
-        (bytes-low m (width s) a (within-low m s a lt (eqb-true (a % width s) 0 al)))))
+      (λ al. ap (λ bs. readable (l .kind (m .low) a) (l .home (m .low) a) (number bs))
+      (bytes-low m (width s) a (within-low m s a lt (eqb-true (a % width s) 0 al)))))
 
   pub read-high : (m : Both L H) (s : Size) (a d : ℕ) → d + border m ≡ a → readAnswer (forkRules l h) m s a ≡ readAnswer h (m .high) s d
   read-high m s a d e =
@@ -101,7 +101,7 @@ module _ {L H : Type 0} (l : Rules L) (h : Rules H) where
       let here : isLow m a ≡ true = lt-ltb a (border m) lt in
       rw here
       (to-part (withLow m) (eqb (a % width s) 0) (l .kind (m .low) a) (l .home (m .low) a) _ (m .low) _ _
-       (λ al. stored-low m (lowBytes s v) a (rw low-length (within-low m s a lt (eqb-true (a % width s) 0 al)))))
+      (λ al. stored-low m (lowBytes s v) a (rw low-length (within-low m s a lt (eqb-true (a % width s) 0 al)))))
 
   pub written-high : (m : Both L H) (s : Size) (a d v : ℕ) → d + border m ≡ a → written (forkRules l h) m s a v ≡ withHigh m (written h (m .high) s d v)
   written-high m s a d v e =
@@ -109,4 +109,4 @@ module _ {L H : Type 0} (l : Rules L) (h : Rules H) where
       let at : a - border m ≡ d = omega arith in
       rw (here, aligned-high m s a d e, at)
       (to-part (withHigh m) (eqb (d % width s) 0) (h .kind (m .high) d) (h .home (m .high) d) _ (m .high) _ _
-       (λ _. stored-high m (lowBytes s v) a d e))
+      (λ _. stored-high m (lowBytes s v) a d e))

@@ -24,10 +24,16 @@ pub(crate) fn allow_read(size: Size, address: u32, kind: Kind, home: Home) -> Re
     ensures { λ r. ⌜ r ≡ ifAligned size address home (readable kind home tt) ⌝ }
 {
     if !aligned(size, address) {
-        return Err(Fault { cause: Cause::Misaligned, home });
+        return Err(Fault {
+            cause: Cause::Misaligned,
+            home,
+        });
     }
     match kind {
-        Kind::Absent => Err(Fault { cause: Cause::Unmapped, home }),
+        Kind::Absent => Err(Fault {
+            cause: Cause::Unmapped,
+            home,
+        }),
         Kind::Rom | Kind::Memory | Kind::Device => Ok(()),
     }
 }
@@ -36,11 +42,20 @@ pub(crate) fn allow_write(size: Size, address: u32, kind: Kind, home: Home) -> R
     ensures { λ r. ⌜ r ≡ ifAligned size address home (writable kind home tt) ⌝ }
 {
     if !aligned(size, address) {
-        return Err(Fault { cause: Cause::Misaligned, home });
+        return Err(Fault {
+            cause: Cause::Misaligned,
+            home,
+        });
     }
     match kind {
-        Kind::Absent => Err(Fault { cause: Cause::Unmapped, home }),
-        Kind::Rom => Err(Fault { cause: Cause::ReadOnly, home }),
+        Kind::Absent => Err(Fault {
+            cause: Cause::Unmapped,
+            home,
+        }),
+        Kind::Rom => Err(Fault {
+            cause: Cause::ReadOnly,
+            home,
+        }),
         Kind::Memory | Kind::Device => Ok(()),
     }
 }

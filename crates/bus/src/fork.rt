@@ -2,10 +2,10 @@
 ghost use mathlib.Core.Path.{_≡_};
 ghost use Prim.Native.Nat.{_*_, _/_, _%_};
 ghost use Rattle.bus.specs.Fork.{Both, both, forkRules};
-use crate::size::Size;
 use crate::fault::Fault;
 use crate::interface::Bus;
 use crate::kind::Kind;
+use crate::size::Size;
 
 #[derive(Drop)]
 pub struct Fork<L, H> {

@@ -1,9 +1,9 @@
 // The bus as a trait: its meaning as ghost members, and what each call does to that meaning.
 ghost use mathlib.Core.Path.{_≡_};
 ghost use Rattle.bus.specs.Rules.{Rules, Laws, readAnswer, writeAnswer, written};
-use crate::size::Size;
 use crate::fault::Fault;
 use crate::kind::Kind;
+use crate::size::Size;
 
 pub trait Bus {
     // what a bus of this make means

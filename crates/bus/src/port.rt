@@ -22,6 +22,7 @@ use std::alloc::AllocError;
 use std::alloc::Global;
 
 const DATA: usize = 0;
+
 const STROBE: usize = 4;
 
 #[derive(Drop)]
@@ -73,7 +74,11 @@ pub impl Bus for Port as PortBus {
     ghost sound = { λ _. Unit {0} };
 
     fn kind(&self, address: u32) -> Kind {
-        if address < 8 { Kind::Device } else { Kind::Absent }
+        if address < 8 {
+            Kind::Device
+        } else {
+            Kind::Absent
+        }
     }
 
     fn lines(&self) -> u32 {

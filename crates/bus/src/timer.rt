@@ -18,8 +18,11 @@ use crate::kind::Kind;
 use crate::size::Size;
 
 const PERIOD: usize = 0;
+
 const COUNT: usize = 4;
+
 const CONTROL: usize = 8;
+
 const STATUS: usize = 12;
 
 #[derive(Drop)]
@@ -92,7 +95,11 @@ pub impl Bus for Timer as TimerBus {
     ghost sound = { λ _. Unit {0} };
 
     fn kind(&self, address: u32) -> Kind {
-        if address < 16 { Kind::Device } else { Kind::Absent }
+        if address < 16 {
+            Kind::Device
+        } else {
+            Kind::Absent
+        }
     }
 
     fn lines(&self) -> u32 {

@@ -64,8 +64,8 @@ abbrev pub vetted : ℕ → ℕ → ℕ → Result Config ConfigRefusal
 vetted w eba deba =
     cond (unsupported w) (Err Unsupported)
     (cond (tooMany w) (Err TooMany)
-     (cond (breakpointsWithoutDebug w) (Err BreakpointsWithoutDebug)
-      (cond (unaligned eba || unaligned deba) (Err BaseUnaligned) (Ok (configuration w eba deba)))))
+    (cond (breakpointsWithoutDebug w) (Err BreakpointsWithoutDebug)
+    (cond (unaligned eba || unaligned deba) (Err BaseUnaligned) (Ok (configuration w eba deba)))))
 
 abbrev pub refusalNumber : ConfigRefusal → ℕ
 refusalNumber Unsupported = 1

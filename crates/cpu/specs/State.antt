@@ -21,42 +21,98 @@ withStatus p s = record { config = p .config; registers = p .registers; pc = p .
 
 abbrev pub withEnable : Status → Enable → Status
 withEnable s e = record {
-  enable = e; im = s .im; ip = s .ip; eba = s .eba; deba = s .deba; remap = s .remap; cc = s .cc; breakpoints = s .breakpoints
+  enable = e;
+  im = s .im;
+  ip = s .ip;
+  eba = s .eba;
+  deba = s .deba;
+  remap = s .remap;
+  cc = s .cc;
+  breakpoints = s .breakpoints;
 }
 
 abbrev pub withIm : Status → ℕ → Status
 withIm s v = record {
-  enable = s .enable; im = v; ip = s .ip; eba = s .eba; deba = s .deba; remap = s .remap; cc = s .cc; breakpoints = s .breakpoints
+  enable = s .enable;
+  im = v;
+  ip = s .ip;
+  eba = s .eba;
+  deba = s .deba;
+  remap = s .remap;
+  cc = s .cc;
+  breakpoints = s .breakpoints;
 }
 
 abbrev pub withIp : Status → ℕ → Status
 withIp s v = record {
-  enable = s .enable; im = s .im; ip = v; eba = s .eba; deba = s .deba; remap = s .remap; cc = s .cc; breakpoints = s .breakpoints
+  enable = s .enable;
+  im = s .im;
+  ip = v;
+  eba = s .eba;
+  deba = s .deba;
+  remap = s .remap;
+  cc = s .cc;
+  breakpoints = s .breakpoints;
 }
 
 abbrev pub withEba : Status → ℕ → Status
 withEba s v = record {
-  enable = s .enable; im = s .im; ip = s .ip; eba = v; deba = s .deba; remap = s .remap; cc = s .cc; breakpoints = s .breakpoints
+  enable = s .enable;
+  im = s .im;
+  ip = s .ip;
+  eba = v;
+  deba = s .deba;
+  remap = s .remap;
+  cc = s .cc;
+  breakpoints = s .breakpoints;
 }
 
 abbrev pub withDeba : Status → ℕ → Status
 withDeba s v = record {
-  enable = s .enable; im = s .im; ip = s .ip; eba = s .eba; deba = v; remap = s .remap; cc = s .cc; breakpoints = s .breakpoints
+  enable = s .enable;
+  im = s .im;
+  ip = s .ip;
+  eba = s .eba;
+  deba = v;
+  remap = s .remap;
+  cc = s .cc;
+  breakpoints = s .breakpoints;
 }
 
 abbrev pub withRemap : Status → Bool → Status
 withRemap s b = record {
-  enable = s .enable; im = s .im; ip = s .ip; eba = s .eba; deba = s .deba; remap = b; cc = s .cc; breakpoints = s .breakpoints
+  enable = s .enable;
+  im = s .im;
+  ip = s .ip;
+  eba = s .eba;
+  deba = s .deba;
+  remap = b;
+  cc = s .cc;
+  breakpoints = s .breakpoints;
 }
 
 abbrev pub withCc : Status → ℕ → Status
 withCc s v = record {
-  enable = s .enable; im = s .im; ip = s .ip; eba = s .eba; deba = s .deba; remap = s .remap; cc = v; breakpoints = s .breakpoints
+  enable = s .enable;
+  im = s .im;
+  ip = s .ip;
+  eba = s .eba;
+  deba = s .deba;
+  remap = s .remap;
+  cc = v;
+  breakpoints = s .breakpoints;
 }
 
 abbrev pub withBreakpoints : Status → List ℕ → Status
 withBreakpoints s bs = record {
-  enable = s .enable; im = s .im; ip = s .ip; eba = s .eba; deba = s .deba; remap = s .remap; cc = s .cc; breakpoints = bs
+  enable = s .enable;
+  im = s .im;
+  ip = s .ip;
+  eba = s .eba;
+  deba = s .deba;
+  remap = s .remap;
+  cc = s .cc;
+  breakpoints = bs;
 }
 
 -- a register, r0 like any other
@@ -73,7 +129,14 @@ reset c rs = record {
   registers = rs;
   pc = c .eba;
   status = record {
-    enable = enabling false false false; im = 0; ip = 0; eba = c .eba; deba = c .deba; remap = false; cc = 0; breakpoints = 0 ∷ 0 ∷ 0 ∷ 0 ∷ []
+    enable = enabling false false false;
+    im = 0;
+    ip = 0;
+    eba = c .eba;
+    deba = c .deba;
+    remap = false;
+    cc = 0;
+    breakpoints = 0 ∷ 0 ∷ 0 ∷ 0 ∷ [];
   };
   outside = 0;
 }

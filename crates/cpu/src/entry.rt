@@ -67,7 +67,8 @@ impl Processor {
     fn handler(&self, exception: Exception) -> u32
         ensures { λ r. ⌜ r ≡ handler (now (self .entry)) exception ⌝ }
     {
-        self.base(exception).wrapping_add(32 * exception.number() as u32)
+        self.base(exception)
+            .wrapping_add(32 * exception.number() as u32)
     }
 
     /// Breaks off at the PC, and goes on in the exception's handler.

@@ -6,10 +6,10 @@ use crate::processor::Processor;
 use alu::compare::branch_taken;
 use alu::extend::sign_extend_26;
 use alu::extend::sign_extend_half;
-use isa::Offset26;
-use isa::Register;
 use isa::BranchOp;
 use isa::JumpOp;
+use isa::Offset26;
+use isa::Register;
 
 fn reach(pc: u32, offset: u32) -> u32
     ensures { λ r. ⌜ r ≡ reached pc offset ⌝ }

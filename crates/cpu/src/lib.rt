@@ -10,8 +10,8 @@ pub mod exception;
 pub mod flow;
 pub mod pending;
 pub mod processor;
-pub mod state;
 pub mod reason;
+pub mod state;
 pub mod trouble;
 pub mod vetting;
 

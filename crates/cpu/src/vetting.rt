@@ -82,7 +82,12 @@ pub fn vet(cfg: u32, eba: u32, deba: u32) -> Result<Config, ConfigRefusal>
         return Err(ConfigRefusal::BaseUnaligned);
     }
     let mask = line_mask(cfg);
-    Ok(Config { cfg, eba, deba, mask })
+    Ok(Config {
+        cfg,
+        eba,
+        deba,
+        mask,
+    })
 }
 
 impl ConfigRefusal {

@@ -45,9 +45,10 @@ returns-then-steady g c =
     let meaning : b .means (c .keep .last .self .below) ≡ m = ap (b .means) (c .keep .ensures .below) ∙ c .read .ensures .meaning in
     let right = right-set (b .rules) law m ls a w (c .pre .1) (c .args .self .now .sets) whole word in
     record {
-      sound =
-        (subst (b .sound) (sym (c .keep .ensures .below)) (c .read .ensures .sound),
-         subst (λ n. Right (b .rules) n (c .keep .last .self .lines)) (sym meaning) (subst (Right (b .rules) m) (sym (c .keep .ensures .lines)) right));
+      sound = (
+        subst (b .sound) (sym (c .keep .ensures .below)) (c .read .ensures .sound),
+        subst (λ n. Right (b .rules) n (c .keep .last .self .lines)) (sym meaning) (subst (Right (b .rules) m) (sym (c .keep .ensures .lines)) right),
+      );
       meaning = meaning;
       answer = ap Ok (c .part-then-steady .ensures) ∙ sym (read-part (b .rules) law m s a w al whole word);
       held = λ x. ap (λ l. isHeld l x) (c .keep .ensures .lines) ∙ fill-kept (b .rules) law m ls s a w x (c .args .self .now .sets) al st;

@@ -25,9 +25,10 @@ returns-in-Some g c =
     let lines = c .keep .ensures .lines ∙ ap (λ x. set ls (setOf a) (entry (a / 4) x)) (c .merge .ensures) in
     let right = right-written (b .rules) (g .B·Bus·met .lawful) m ls s a (c .args .value) w (c .pre .1) (c .args .self .now .sets) ok held in
     record {
-      sound =
-        (subst (b .sound) (sym (c .keep .ensures .below)) (c .write .ensures .sound),
-         subst (λ n. Right (b .rules) n (c .keep .last .self .lines)) (sym meaning) (subst (Right (b .rules) _) (sym lines) right));
+      sound = (
+        subst (b .sound) (sym (c .keep .ensures .below)) (c .write .ensures .sound),
+        subst (λ n. Right (b .rules) n (c .keep .last .self .lines)) (sym meaning) (subst (Right (b .rules) _) (sym lines) right),
+      );
       meaning = meaning;
       answer = sym ok;
       held = λ x. ap (λ l. isHeld l x) lines ∙ held-set ls a _ x (c .args .self .now .sets) ∙ sym (held-hit ls a w x held);

@@ -1,0 +1,6 @@
+// Laws of the machine above its definitions, each on the contract of a call.
+mod theorems;
+
+pub use theorems::exception_laws;
+pub use theorems::register_law;
+pub use theorems::worked_examples;
