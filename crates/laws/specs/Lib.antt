@@ -1,3 +1,4 @@
+pub mod Ends
 pub mod Examples
 pub mod Exceptions
 pub mod Registers

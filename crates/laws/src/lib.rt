@@ -3,4 +3,5 @@ mod theorems;
 
 pub use theorems::exception_laws;
 pub use theorems::register_law;
+pub use theorems::signed_ends;
 pub use theorems::worked_examples;

@@ -1,4 +1,5 @@
 // The calls that carry the laws; what they answer says nothing.
+ghost use Rattle.laws.specs.Ends.{SignedEnds};
 ghost use Rattle.laws.specs.Examples.{WorkedExamples};
 ghost use Rattle.laws.specs.Exceptions.{SavesAndReturns};
 ghost use Rattle.laws.specs.Registers.{EveryRegisterKeeps};
@@ -20,6 +21,13 @@ pub fn exception_laws() -> bool
 /// A register holds what was last put into it, r0 like any other, and no other changes.
 pub fn register_law() -> bool
     ensures law { λ _. ⌜ EveryRegisterKeeps ⌝ }
+{
+    true
+}
+
+/// Signed comparison, arithmetic right shift and sign extension are right at the ends of the range.
+pub fn signed_ends() -> bool
+    ensures ends { λ _. ⌜ SignedEnds ⌝ }
 {
     true
 }
