@@ -12,6 +12,7 @@ use Rattle.isa.specs.declared.operation.JumpOp.the-variants.{B, Call}
 use Rattle.isa.specs.declared.operation.LoadOp.{LoadOp}
 use Rattle.isa.specs.declared.register.Register.{Register}
 use Rattle.alu.specs.Compare.{branches}
+use Rattle.isa.specs.Decode.{decoded}
 use Rattle.bus.specs.Rules.{Rules}
 use Rattle.bus.specs.declared.fault.Fault.{Fault}
 use Rattle.cpu.specs.Config.{debugs}
@@ -29,7 +30,7 @@ use Rattle.cpu.specs.declared.reason.Trouble.{Trouble}
 use Rattle.board.specs.Counter.{counterAfter, UnchangedByStop}
 use Rattle.board.specs.Execute.{barred, executed, put, afterLoad, afterStore}
 use Rattle.board.specs.Machine.{Machine}
-use Rattle.board.specs.Step.{noted, takes, stops, ifExecuted, ifBarred, ifDecoded}
+use Rattle.board.specs.Step.{noted, takes, stops, ifExecuted, ifBarred, ifDecoded, ifFetched, ifInterrupted, ifBroken, fetched, stepped}
 
 -- what is shown of a step from s that comes to an answer and a machine
 pub record Counted {M : Type 0} (s : Machine M) (a : Answer × Machine M) : Type 0 where
@@ -114,6 +115,21 @@ module _ {M : Type 0} (r : Rules M) (s : Machine M) where
   barring w i None = finishing w (executed r (noted r s) i) (executing r (noted r s) i)
 
   -- a step from its decoded word on
-  pub decoding : (w : ℕ) (x : Option Instruction) → Counted s (ifDecoded r s w x)
+  decoding : (w : ℕ) (x : Option Instruction) → Counted s (ifDecoded r s w x)
   decoding w None = stopping _
   decoding w (Some i) = barring w i (barred (s .cpu) i)
+
+  fetching : (x : Result ℕ Trouble) → Counted s (ifFetched r s x)
+  fetching (Err t) = taking _
+  fetching (Ok w) = decoding w (decoded w)
+
+  interrupting : (x : Option ℕ) → Counted s (ifInterrupted r s x)
+  interrupting (Some line) = taking _
+  interrupting None = fetching (fetched r s)
+
+  breaking : (x : Option ℕ) → Counted s (ifBroken r s x)
+  breaking (Some k) = taking _
+  breaking None = interrupting _
+
+  pub step-counts : Counted s (stepped r s)
+  step-counts = breaking _

@@ -1,2 +1,4 @@
+pub mod Alignment
 pub mod Counter
 pub mod Loading
+pub mod Writers

@@ -2,9 +2,11 @@
 ghost use mathlib.Core.Path.{_≡_};
 ghost use Rattle.isa.specs.Decode.{decoded};
 ghost use Rattle.cpu.specs.State.{reset};
+ghost use Rattle.board.specs.Alignment.{Aligned};
 ghost use Rattle.board.specs.Counter.{counterAfter, UnchangedByStop};
 ghost use Rattle.board.specs.Execute.{executed};
 ghost use Rattle.board.specs.Machine.{seen, machine};
+ghost use Rattle.board.specs.Writers.{WritesOnly};
 ghost use Rattle.board.specs.Step.{pend, noted, departed, takes, stops, ifDecoded, ifExecuted, settled, fetched, stepped};
 use crate::execute::find_bar;
 use crate::machine::Board;
@@ -25,6 +27,7 @@ impl<B: Bus> Board<B> {
         requires { ⌜ B·Bus .sound bus ⌝ }
         ensures sound { λ r. ⌜ B·Bus .sound (r .bus) ⌝ }
         ensures state { λ r. ⌜ seen (B·Bus .means) r ≡ machine (reset config registers) (B·Bus .means bus) ⌝ }
+        ensures aligned { λ r. ⌜ Aligned (r .processor) ⌝ }
     {
         Board {
             processor: Processor::new(config, registers),
@@ -127,13 +130,11 @@ impl<B: Bus> Board<B> {
         Answer::Taken(exception)
     }
 
-    /// One step: an instruction done, an exception taken, or a stop that changes nothing.
-    pub fn step(&mut self) -> Answer
+    // The step itself, by its definition.
+    fn make_step(&mut self) -> Answer
         requires { ⌜ B·Bus .sound (now self .bus) ⌝ }
         ensures sound { λ _. ⌜ B·Bus .sound (now (self .exit) .bus) ⌝ }
         ensures state { λ _. ⌜ seen (B·Bus .means) (now (self .exit)) ≡ stepped (B·Bus .rules) (seen (B·Bus .means) (now (self .entry))) .1 ⌝ }
-        ensures counter { λ r. ⌜ now (self .exit) .processor .status .cc ≡ counterAfter r (now (self .entry) .processor .status .cc) ⌝ }
-        ensures stop { λ r. ⌜ UnchangedByStop r (seen (B·Bus .means) (now (self .entry))) (seen (B·Bus .means) (now (self .exit))) ⌝ }
         ensures answer { λ r. ⌜ r ≡ stepped (B·Bus .rules) (seen (B·Bus .means) (now (self .entry))) .0 ⌝ }
     {
         let lines = self.processor.pending(self.bus.lines());
@@ -147,5 +148,19 @@ impl<B: Bus> Board<B> {
             Ok(word) => self.perform(lines, word),
             Err(trouble) => self.take(lines, trouble.while_fetching()),
         }
+    }
+
+    /// One step: an instruction done, an exception taken, or a stop that changes nothing.
+    pub fn step(&mut self) -> Answer
+        requires { ⌜ B·Bus .sound (now self .bus) ⌝ }
+        ensures sound { λ _. ⌜ B·Bus .sound (now (self .exit) .bus) ⌝ }
+        ensures state { λ _. ⌜ seen (B·Bus .means) (now (self .exit)) ≡ stepped (B·Bus .rules) (seen (B·Bus .means) (now (self .entry))) .1 ⌝ }
+        ensures answer { λ r. ⌜ r ≡ stepped (B·Bus .rules) (seen (B·Bus .means) (now (self .entry))) .0 ⌝ }
+        ensures counter { λ r. ⌜ now (self .exit) .processor .status .cc ≡ counterAfter r (now (self .entry) .processor .status .cc) ⌝ }
+        ensures stop { λ r. ⌜ UnchangedByStop r (seen (B·Bus .means) (now (self .entry))) (seen (B·Bus .means) (now (self .exit))) ⌝ }
+        ensures aligned { λ _. ⌜ (Aligned (now (self .entry) .processor) → Aligned (now (self .exit) .processor)) ⌝ }
+        ensures writes { λ r. ⌜ WritesOnly r (now (self .entry) .processor) (now (self .exit) .processor) ⌝ }
+    {
+        self.make_step()
     }
 }

@@ -8,7 +8,7 @@ use lib.ListN.{getD, set}
 use Rattle.alu.specs.Arithmetic.{complement}
 use Rattle.cpu.specs.Config.{hasBit, counts, debugs, breakpointCount}
 use Rattle.cpu.specs.Enable.{enableWord, enableOf}
-use Rattle.cpu.specs.State.{withStatus, withEnable, withIm, withIp, withEba, withDeba, withRemap, withBreakpoints}
+use Rattle.cpu.specs.State.{baseOf, withStatus, withEnable, withIm, withIp, withEba, withDeba, withRemap, withBreakpoints}
 use Rattle.cpu.specs.declared.config.Config.{Config}
 use Rattle.cpu.specs.declared.csr.Csr.{Csr}
 use Rattle.cpu.specs.declared.csr.Csr.the-variants.{Ie, Im, Ip, Cc, Cfg, Eba, Dc, Deba, Breakpoint, Other}
@@ -37,10 +37,7 @@ csrRead p Deba = cond (debugs (p .config)) (p .status .deba) 0
 csrRead p (Breakpoint k) = 0
 csrRead p Other = 0
 
--- bases keep no low byte, and a breakpoint register not its bit 1
-abbrev pub baseOf : ℕ → ℕ
-baseOf v = v / 256 * 256
-
+-- a breakpoint register does not keep its bit 1
 abbrev pub breakpointOf : ℕ → ℕ
 breakpointOf v = v - v / 2 % 2 * 2
 

@@ -122,18 +122,22 @@ reg p r = getD (p .registers) (r .number) 0
 abbrev pub setReg : Processor → ℕ → ℕ → Processor
 setReg p n v = withRegisters p (set (p .registers) n v)
 
+-- a base keeps no low byte
+abbrev pub baseOf : ℕ → ℕ
+baseOf v = v / 256 * 256
+
 -- PC and EBA at EBA's reset value, DEBA at its own, the registers as given, all else 0
 abbrev pub reset : Config → List ℕ → Processor
 reset c rs = record {
   config = c;
   registers = rs;
-  pc = c .eba;
+  pc = baseOf (c .eba);
   status = record {
     enable = enabling false false false;
     im = 0;
     ip = 0;
-    eba = c .eba;
-    deba = c .deba;
+    eba = baseOf (c .eba);
+    deba = baseOf (c .deba);
     remap = false;
     cc = 0;
     breakpoints = 0 ∷ 0 ∷ 0 ∷ 0 ∷ [];

@@ -2,7 +2,7 @@
 ghost use mathlib.Core.Path.{_≡_};
 ghost use Prim.Native.Nat.{_<_};
 ghost use lib.ListN.{set};
-ghost use Rattle.cpu.specs.Csr.{csrNamed, csrRead, csrWritten, baseOf, breakpointOf};
+ghost use Rattle.cpu.specs.Csr.{csrNamed, csrRead, csrWritten};
 ghost use Rattle.alu.specs.Arithmetic.{flag};
 ghost use Rattle.cpu.specs.Enable.{enableWord, enableOf};
 use crate::csr::Csr;

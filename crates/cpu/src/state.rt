@@ -12,10 +12,12 @@ impl Processor {
     pub fn new(config: Config, registers: [u32; 32]) -> Processor
         ensures state { λ r. ⌜ r ≡ reset config registers ⌝ }
     {
+        let eba = config.eba / 256 * 256;
+        let deba = config.deba / 256 * 256;
         Processor {
             config,
             registers,
-            pc: config.eba,
+            pc: eba,
             status: Status {
                 enable: Enable {
                     ie: false,
@@ -24,8 +26,8 @@ impl Processor {
                 },
                 im: 0,
                 ip: 0,
-                eba: config.eba,
-                deba: config.deba,
+                eba,
+                deba,
                 remap: false,
                 cc: 0,
                 breakpoints: [0; 4],
