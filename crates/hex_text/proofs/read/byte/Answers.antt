@@ -8,5 +8,5 @@ pub returns : goal.returns
 returns c =
     let high = c.args.high in
     let low = c.args.low in
-    let is = two_digits high low _ _ c.in-ok-high.ensures.value c.in-ok-low.ensures.value in
+    let is = two_digits high low _ _ c.in_ok-high.ensures.value c.in_ok-low.ensures.value in
     record { value = is; inverse = undoes 2 (high ∷ low ∷ []) _ is }

@@ -13,31 +13,31 @@ told bs sized r e =
     record { value = is; inverse = undoes 8 bs r is }
 
 small : (c : goal.After-from) → c.from.result < 16
-small c = omega (arith, digit_below (get_or c.args.digits.now c.loop-b.b-index 0) _ c.in-ok-digit.ensures.value, c.from.ensures)
+small c = omega (arith, digit_below (get_or c.args.digits.now c.loop-b.b-index 0) _ c.in_ok-digit.ensures.value, c.from.ensures)
 
-pub overflow-mul-number : goal.overflow-mul-number
-overflow-mul-number c = omega (arith, room c.loop-b.b-index c.loop-b.number (omega arith) c.loop-b.invariant.1)
+pub overflow_mul-number : goal.overflow_mul-number
+overflow_mul-number c = omega (arith, room c.loop-b.b-index c.loop-b.number (omega arith) c.loop-b.invariant.1)
 
-pub overflow-add-number : goal.overflow-add-number
-overflow-add-number c = omega (arith, small c, room c.loop-b.b-index c.loop-b.number (omega arith) c.loop-b.invariant.1)
+pub overflow_add-number : goal.overflow_add-number
+overflow_add-number c = omega (arith, small c, room c.loop-b.b-index c.loop-b.number (omega arith) c.loop-b.invariant.1)
 
 pub loop-b-preserved : goal.loop-b-preserved
 loop-b-preserved c =
     let digits = c.args.digits.now in
     let i = c.loop-b.b-index in
     let on = at_drop_more (hex_after c.loop-b.number) digits i 0 c.loop-b-test.true in
-    let step = after_digit c.loop-b.number (get_or digits i 0) (drop (i + 1) digits) _ c.in-ok-digit.ensures.value in (
+    let step = after_digit c.loop-b.number (get_or digits i 0) (drop (i + 1) digits) _ c.in_ok-digit.ensures.value in (
       rw c.from.ensures (sym step ∙ sym on ∙ c.loop-b.invariant.0),
       one_more i c.loop-b.number c.from.result c.loop-b.invariant.1 (small c),
     )
 
-pub returns-in-err-digit : goal.returns-in-err-digit
-returns-in-err-digit c =
+pub returns-in_err-digit : goal.returns-in_err-digit
+returns-in_err-digit c =
     let digits = c.args.digits.now in
     let i = c.loop-b.b-index in
     let on = at_drop_more (hex_after c.loop-b.number) digits i 0 c.loop-b-test.true in
-    let stop = after_none c.loop-b.number (get_or digits i 0) (drop (i + 1) digits) c.in-err-digit.ensures.value in
-    told digits (omega arith) _ (c.from-residual.ensures ∙ sym stop ∙ sym on ∙ c.loop-b.invariant.0)
+    let stop = after_none c.loop-b.number (get_or digits i 0) (drop (i + 1) digits) c.in_err-digit.ensures.value in
+    told digits (omega arith) _ (c.from_residual.ensures ∙ sym stop ∙ sym on ∙ c.loop-b.invariant.0)
 
 pub returns : goal.returns
 returns c =

@@ -7,6 +7,6 @@ use Rattle.hex_text.proofs.write.hexadecimal.Goals as goal
 
 pub returns : goal.returns
 returns c = record {
-  value = c.last-digits.ensures.value;
-  reads = IfOk-weaker c.last-digits.result _ _ (λ t e. ap (hex_number_in 8) e ∙ number_of_digits 8 c.args.n (omega arith)) c.last-digits.ensures.value;
+  value = c.last_digits.ensures.value;
+  reads = IfOk-weaker c.last_digits.result _ _ (λ t e. ap (hex_number_in 8) e ∙ number_of_digits 8 c.args.n (omega arith)) c.last_digits.ensures.value;
 }

@@ -16,14 +16,14 @@ returns-in-Malformed g c = told (memory_in g.B.Bus.rules (g.B.Bus.means c.args.b
 pub returns-in-End : goal.returns-in-End
 returns-in-End g c = told (memory_in g.B.Bus.rules (g.B.Bus.means c.args.bus.now)) c.args.image.now _ (search rules)
 
-pub returns-then-not-on-memory : goal.returns-then-not-on-memory
-returns-then-not-on-memory g c = told (memory_in g.B.Bus.rules (g.B.Bus.means c.args.bus.now)) c.args.image.now _ (search rules)
+pub returns-then-not-on_memory : goal.returns-then-not-on_memory
+returns-then-not-on_memory g c = told (memory_in g.B.Bus.rules (g.B.Bus.means c.args.bus.now)) c.args.image.now _ (search rules)
 
 pub returns-then-place-image : goal.returns-then-place-image
 returns-then-place-image g c =
     let memory = memory_in g.B.Bus.rules (g.B.Bus.means c.args.bus.now) in
     let image = c.args.image.now in
-    told memory image _ (sym (line_cut_short memory image c.loop-line.place c.loop-line.count c.in-default.ensures.value (omega arith)) ∙ c.loop-line.invariant.0)
+    told memory image _ (sym (line_cut_short memory image c.loop-line.place c.loop-line.count c.in_default.ensures.value (omega arith)) ∙ c.loop-line.invariant.0)
 
 pub returns-else-place-image : goal.returns-else-place-image
 returns-else-place-image g c =

@@ -10,16 +10,16 @@ use Rattle.image.proofs.read.read_bytes.Goals as goal
 pub returns-then-digits-ne0 : goal.returns-then-digits-ne0
 returns-then-digits-ne0 c = record { value = sym (payload_none c.args.digits.now (λ n sized low high. omega arith)) }
 
-pub returns-in-err-items : goal.returns-in-err-items
-returns-in-err-items c =
-    let none = pair_none c.args.digits.now c.loop-k.k (take c.loop-k.k c.loop-k.items) (omega arith) c.loop-k.invariant.0 c.in-err-items.ensures.value in
-    record { value = ap (option_map bytes_in) c.from-residual.ensures ∙ ap one_to32 none }
+pub returns-in_err-items : goal.returns-in_err-items
+returns-in_err-items c =
+    let none = pair_none c.args.digits.now c.loop-k.k (take c.loop-k.k c.loop-k.items) (omega arith) c.loop-k.invariant.0 c.in_err-items.ensures.value in
+    record { value = ap (option_map bytes_in) c.from_residual.ensures ∙ ap one_to32 none }
 
 pub loop-k-preserved : goal.loop-k-preserved
 loop-k-preserved c =
     let k = c.loop-k.k in
     let items = c.loop-k.items in
-    let more = pair_more c.args.digits.now k (take k items) (omega arith) c.loop-k.invariant.0 _ c.in-ok-items.ensures.value in
+    let more = pair_more c.args.digits.now k (take k items) (omega arith) c.loop-k.invariant.0 _ c.in_ok-items.ensures.value in
     (ap (λ xs. after xs (bytes_of (drop (2 * (k + 1)) c.args.digits.now))) (take_more_set items k _ (omega arith)) ∙ more, length-set items k _ ∙ c.loop-k.invariant.1)
 
 pub returns : goal.returns

@@ -6,16 +6,16 @@ use Rattle.image.specs.Reading.{starts_data}
 use Rattle.image.proofs.Forms.{data_parts}
 use Rattle.image.proofs.read.read_data.Goals as goal
 
-pub returns-in-err-bytes : goal.returns-in-err-bytes
-returns-in-err-bytes c =
+pub returns-in_err-bytes : goal.returns-in_err-bytes
+returns-in_err-bytes c =
     let l = c.args.line.now in
     let starts : starts_data l ≡ true = search rules in
     record {
-      value = ap (option_map data_in) c.from-residual-in-err-bytes.ensures ∙ data_parts l _ _ starts c.in-ok-address.ensures.value c.in-err-bytes.ensures.value;
+      value = ap (option_map data_in) c.from_residual-in_err-bytes.ensures ∙ data_parts l _ _ starts c.in_ok-address.ensures.value c.in_err-bytes.ensures.value;
     }
 
 pub returns : goal.returns
 returns c =
     let l = c.args.line.now in
     let starts : starts_data l ≡ true = search rules in
-    record { value = data_parts l _ _ starts c.in-ok-address.ensures.value c.in-ok-bytes.ensures.value }
+    record { value = data_parts l _ _ starts c.in_ok-address.ensures.value c.in_ok-bytes.ensures.value }

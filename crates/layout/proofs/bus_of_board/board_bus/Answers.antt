@@ -5,10 +5,10 @@ use Rattle.bus.specs.Cache.{Right}
 use Rattle.layout.proofs.First.{same_board}
 use Rattle.layout.proofs.bus_of_board.board_bus.Goals as goal
 
-pub returns-in-err-new : goal.returns-in-err-new
-returns-in-err-new c = record {
-  meaning = IfOk-from_err c.from-residual-in-err-new.result _ c.from-residual-in-err-new.ensures.0;
-  sound = IfOk-from_err c.from-residual-in-err-new.result _ c.from-residual-in-err-new.ensures.0;
+pub returns-in_err-new : goal.returns-in_err-new
+returns-in_err-new c = record {
+  meaning = IfOk-from_err c.from_residual-in_err-new.result _ c.from_residual-in_err-new.ensures.0;
+  sound = IfOk-from_err c.from_residual-in_err-new.result _ c.from_residual-in_err-new.ensures.0;
 }
 
 pub returns : goal.returns
@@ -17,11 +17,11 @@ returns c =
     let made-bus = c.new-5.ensures in
     let devices = c.new-devices.ensures in
     let timer = c.new.ensures in
-    let port = c.in-ok-new.ensures in
+    let port = c.in_ok-new.ensures in
     let cache = c.new-4.ensures in
     let memory : vec_items bus.low.below.bytes ≡ replicate 4096 0 =
     ap (λ l. vec_items l.below.bytes) made-bus.low ∙ ap (λ b. vec_items b.bytes) cache.below ∙ c.new-3.ensures.meaning
-    ∙ c.in-ok-bytes.ensures.items-if-clones-equal (λ y e. e) in
+    ∙ c.in_ok-bytes.ensures.items-if-clones-equal (λ y e. e) in
     let held : Right ram_rules (vec_items c.new-3.result.bytes) c.new-4.result.lines = cache.right in
     record {
       meaning =

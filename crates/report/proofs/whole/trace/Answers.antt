@@ -17,8 +17,8 @@ pub loop-line-preserved : goal.loop-line-preserved
 loop-line-preserved c =
     let blank : StepLine = record { step = 0; pc = 0; kind = Done; value = 0 } in
     longer c.args.lines.now c.loop-line.line-index blank c.loop-line-test.true _ _ _ c.loop-line.invariant
-    (c.as-str.ensures.value ∙ c.in-ok-text-2.ensures.value)
-    c.in-ok-push-str.ensures.bytes
+    (c.as_str.ensures.value ∙ c.in_ok-text-2.ensures.value)
+    c.in_ok-push_str.ensures.bytes
 
 whole : (ss : List StepLine) (i done taken : ℕ) → length ss ≤ i → (was now end : List ℕ) → was ≡ header ++ flat_map step_text (take i ss) → done ≡ total one_done ss → taken ≡ total one_taken ss → end ≡ end_text done taken → now ≡ was ++ end → now ≡ trace_text ss
 whole ss i done taken h was now end before d t is e =
@@ -29,6 +29,6 @@ pub returns : goal.returns
 returns c = record {
   value = whole c.args.lines.now c.loop-line.line-index _ _ c.loop-line-test.false _ _ _ c.loop-line.invariant
       c.counts-done.ensures.done c.counts-done.ensures.taken
-      (c.as-str-2.ensures.value ∙ c.in-ok-end-line.ensures.value)
-      c.in-ok-push-str-2.ensures.bytes;
+      (c.as_str-2.ensures.value ∙ c.in_ok-end_line.ensures.value)
+      c.in_ok-push_str-2.ensures.bytes;
 }

@@ -14,8 +14,8 @@ loop-call-preserved g c =
       c.perform-reply.ensures.sound,
       omega arith,
       omega arith,
-      told_more b.rules s t (vec_items c.loop-call.replies) (vec_items c.push-reserved.new.self) c.perform-reply.result _ c.args.script.now
-          c.loop-call.call-index _ (omega arith) c.push-reserved.ensures.items c.perform-reply.ensures.answer c.perform-reply.ensures.state c.loop-call.invariant.3,
+      told_more b.rules s t (vec_items c.loop-call.replies) (vec_items c.push_reserved.new.self) c.perform-reply.result _ c.args.script.now
+          c.loop-call.call-index _ (omega arith) c.push_reserved.ensures.items c.perform-reply.ensures.answer c.perform-reply.ensures.state c.loop-call.invariant.3,
       final_more b.rules s t _ c.args.script.now c.loop-call.call-index _ (omega arith) c.perform-reply.ensures.state c.loop-call.invariant.4,
     )
 

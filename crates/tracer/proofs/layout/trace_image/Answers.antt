@@ -6,8 +6,8 @@ use Rattle.bus.specs.Fork.{both}
 use Rattle.tracer.proofs.First.{same_board}
 use Rattle.tracer.proofs.layout.trace_image.Goals as goal
 
-pub returns-in-err-new : goal.returns-in-err-new
-returns-in-err-new c = record { value = IfOk-from_err c.from-residual-in-err-new.result _ c.from-residual-in-err-new.ensures.0 }
+pub returns-in_err-new : goal.returns-in_err-new
+returns-in_err-new c = record { value = IfOk-from_err c.from_residual-in_err-new.result _ c.from_residual-in_err-new.ensures.0 }
 
 pub returns : goal.returns
 unfolding traced
@@ -16,7 +16,7 @@ returns c =
     let made-bus = c.new-bus.ensures in
     let devices = c.new-devices.ensures in
     let timer = c.new.ensures in
-    let port = c.in-ok-new.ensures in
+    let port = c.in_ok-new.ensures in
     let image = c.args.image.now in
     let m : Meaning = both bus.split (vec_items bus.low.below.bytes)
     (both bus.high.split
@@ -24,7 +24,7 @@ returns c =
     (record { registers = bus.high.high.registers; gone = vec_items bus.high.high.gone; room = bus.high.high.room })) in
     let memory : vec_items bus.low.below.bytes ≡ replicate 4096 0 =
     ap (λ l. vec_items l.below.bytes) made-bus.low ∙ ap (λ b. vec_items b.bytes) c.new-4.ensures.below ∙ c.new-3.ensures.meaning
-    ∙ c.in-ok-bytes.ensures.items-if-clones-equal (λ y e. e) in
+    ∙ c.in_ok-bytes.ensures.items-if-clones-equal (λ y e. e) in
     let same : m ≡ first_meaning (replicate 4096 0) =
     same_board made-bus.split memory
     (ap (λ h. h.split) made-bus.high ∙ devices.split)
@@ -35,6 +35,6 @@ returns c =
     (ap (λ h. vec_items h.high.gone) made-bus.high ∙ ap (λ t. vec_items t.gone) devices.high ∙ port.1)
     (ap (λ h. h.high.room) made-bus.high ∙ ap (λ t. t.room) devices.high ∙ port.2) in
     record {
-      value = IfOk-weaker c.trace-on.result (λ t. string_bytes t ≡ trace_on rules m image) (λ t. string_bytes t ≡ trace_on rules (first_meaning (replicate 4096 0)) image)
-          (λ t e. e ∙ ap (λ x. trace_on rules x image) same) c.trace-on.ensures.value;
+      value = IfOk-weaker c.trace_on.result (λ t. string_bytes t ≡ trace_on rules m image) (λ t. string_bytes t ≡ trace_on rules (first_meaning (replicate 4096 0)) image)
+          (λ t e. e ∙ ap (λ x. trace_on rules x image) same) c.trace_on.ensures.value;
     }

@@ -17,12 +17,12 @@ loop-k-preserved g c =
     let b = g.B.Bus in
     let s = seen b.means c.loop-k.board in
     let k = c.loop-k.k in
-    let line : c.line-of-line.result ≡ line_at b.rules (k + 1) s =
-    c.line-of-line.ensures ∙ ap (λ p. line_of (k + 1) p c.step.result) c.pc-pc.ensures.value ∙ ap (line_of (k + 1) s.cpu.pc) c.step.ensures.answer in
+    let line : c.line_of-line.result ≡ line_at b.rules (k + 1) s =
+    c.line_of-line.ensures ∙ ap (λ p. line_of (k + 1) p c.step.result) c.pc-pc.ensures.value ∙ ap (line_of (k + 1) s.cpu.pc) c.step.ensures.answer in
     let go : is_stopped (kind_of (stepped b.rules s).0) ≡ false =
     sym (ap (λ l. is_stopped l.kind) line) ∙ sym c.stopped.ensures ∙ c.if-stopped.false in
-    let found : vec_items c.push.new.self ≡ vec_items c.loop-k.found ++ c.line-of-line.result ∷ [] =
-    pushed (c.line-of-line.result ∷ []) refl c.in-ok-push.was c.push.ensures.items in
+    let found : vec_items c.push.new.self ≡ vec_items c.loop-k.found ++ c.line_of-line.result ∷ [] =
+    pushed (c.line_of-line.result ∷ []) refl c.in_ok-push.was c.push.ensures.items in
     let more = one_more b.rules c.args.budget k s (vec_items c.loop-k.found) _ (omega arith) go c.loop-k.invariant.1 in (
       c.step.ensures.sound,
       ap (λ xs. xs ++ lines b.rules (c.args.budget - (k + 1)) (k + 1 + 1) (seen b.means c.step.new.self)) (found ∙ ap (λ l. vec_items c.loop-k.found ++ l ∷ []) line)
@@ -34,12 +34,12 @@ returns-then-stopped g c =
     let b = g.B.Bus in
     let s = seen b.means c.loop-k.board in
     let k = c.loop-k.k in
-    let line : c.line-of-line.result ≡ line_at b.rules (k + 1) s =
-    c.line-of-line.ensures ∙ ap (λ p. line_of (k + 1) p c.step.result) c.pc-pc.ensures.value ∙ ap (line_of (k + 1) s.cpu.pc) c.step.ensures.answer in
+    let line : c.line_of-line.result ≡ line_at b.rules (k + 1) s =
+    c.line_of-line.ensures ∙ ap (λ p. line_of (k + 1) p c.step.result) c.pc-pc.ensures.value ∙ ap (line_of (k + 1) s.cpu.pc) c.step.ensures.answer in
     let stop : is_stopped (kind_of (stepped b.rules s).0) ≡ true =
     sym (ap (λ l. is_stopped l.kind) line) ∙ sym c.stopped.ensures ∙ c.if-stopped.true in
-    let found : vec_items c.push.new.self ≡ vec_items c.loop-k.found ++ c.line-of-line.result ∷ [] =
-    pushed (c.line-of-line.result ∷ []) refl c.in-ok-push.was c.push.ensures.items in
+    let found : vec_items c.push.new.self ≡ vec_items c.loop-k.found ++ c.line_of-line.result ∷ [] =
+    pushed (c.line_of-line.result ∷ []) refl c.in_ok-push.was c.push.ensures.items in
     record {
       value = found ∙ ap (λ l. vec_items c.loop-k.found ++ l ∷ []) line
           ∙ the_last b.rules c.args.budget k s (vec_items c.loop-k.found) _ (omega arith) stop c.loop-k.invariant.1;
@@ -50,5 +50,5 @@ returns g c =
     let b = g.B.Bus in
     record { value = no_more b.rules c.args.budget c.loop-k.k (seen b.means c.loop-k.board) (vec_items c.loop-k.found) _ (omega arith) c.loop-k.invariant.1 }
 
-pub returns-in-err-push : goal.returns-in-err-push
-returns-in-err-push g c = record { value = IfOk-from_err c.from-residual.result _ (search rules) }
+pub returns-in_err-push : goal.returns-in_err-push
+returns-in_err-push g c = record { value = IfOk-from_err c.from_residual.result _ (search rules) }

@@ -46,9 +46,9 @@ returns-in-Stopped g c =
     record {
       sound = c.step.ensures.sound;
       state = c.step.ensures.state ∙ ran.lasts;
-      done = ap (λ x. x.0) c.stopped-run.ensures ∙ ran.dones;
-      taken = ap (λ x. x.1) c.stopped-run.ensures ∙ ran.takens;
-      ending = ap (λ x. x.2) c.stopped-run.ensures ∙ ran.endings;
+      done = ap (λ x. x.0) c.stopped_run.ensures ∙ ran.dones;
+      taken = ap (λ x. x.1) c.stopped_run.ensures ∙ ran.takens;
+      ending = ap (λ x. x.2) c.stopped_run.ensures ∙ ran.endings;
     }
 
 pub returns : goal.returns

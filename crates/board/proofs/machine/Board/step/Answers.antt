@@ -13,8 +13,8 @@ pub returns : goal.returns
 returns g c =
     let b = g.B.Bus in
     let s = seen b.means c.args.self.now in
-    let t = seen b.means c.make-step.new.self in
-    let made = c.make-step.ensures in
+    let t = seen b.means c.make_step.new.self in
+    let made = c.make_step.ensures in
     let counted = step_counts b.rules s in
     record {
       sound = made.sound;

@@ -3,8 +3,8 @@ use Rattle.bus.specs.Fork.{both}
 use Rattle.bus.proofs.Sides.{answer_high, written_high}
 use Rattle.bus.proofs.fork.ForkBus.write.Goals as goal
 
-pub returns-in-err-write-2 : goal.returns-in-err-write-2
-returns-in-err-write-2 g c =
+pub returns-in_err-write-2 : goal.returns-in_err-write-2
+returns-in_err-write-2 g c =
     let l = g.L.Bus in
     let h = g.H.Bus in
     let m = both c.args.self.now.split (l.means c.args.self.now.low) (h.means c.args.self.now.high) in

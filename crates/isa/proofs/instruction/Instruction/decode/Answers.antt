@@ -10,6 +10,6 @@ pub returns : goal.returns
 unfolding decoded
 returns c =
     let w = c.args.word in
-    let e : c.ok-or.result ≡ ok_or (decoded w) refusal = cc in
+    let e : c.ok_or.result ≡ ok_or (decoded w) refusal = cc in
     let a = answered w (omega arith) in
     record { answer = e; cases = rw e a.0; one_word = rw e a.1; reserved = rw e a.2 }

@@ -12,8 +12,8 @@ pub returns : goal.returns
 returns c =
     let i = c.args.self in
     let k = c.opcode.result in
-    let n = c.below-opcode.result in
-    let l = c.below-opcode.ensures.value in
+    let n = c.below_opcode.result in
+    let l = c.below_opcode.ensures.value in
     let e : named k ≡ Some (named_by i) = cc in
     let sum = opcode_or k n c.opcode.ensures.within (laid_below i n l) in
     let b : decoded (bit_or (k * 2 ^ 26 % 2 ^ 32) n) ≡ Some i = rw sum (word_back k n i c.opcode.ensures.within e l) in
