@@ -1,9 +1,9 @@
 -- What a cache holds stays the word that lies below. Assumes nothing.
-use Rattle.std.proofs.Common.{◌≡◌, ℕ, zero, suc, ◌+◌, ◌*◌, ◌/◌, ◌%◌, ◌<◌, ◌≤◌, Bool, true, false, cond, ◌&&◌, eqb, ◌≢◌, ◌⊎◌, List, [], ◌∷◌, length, get_or, set, is_some, is_ok, Some, None, Ok, Err, Option, Result, sym, refl, ap, ◌∙◌, subst, inl, inr, ⊎_elim, arith, length-set, get_or-set_other, get_or-set_same}
-use Rattle.std.proofs.lemmas.Bool.{cases_Bool, cases_eq, cases_lt, eqb-true, eqb-false, eq-eqb, ne_eqb}
+use Rattle.std.proofs.Common.{◌≡◌, ℕ, zero, suc, ◌+◌, ◌*◌, ◌/◌, ◌%◌, ◌<◌, ◌≤◌, Bool, true, false, cond, ◌&&◌, eqb, ◌⊎◌, List, [], ◌∷◌, length, get_or, set, is_ok, Some, None, Ok, Err, Option, sym, refl, ap, ◌∙◌, subst, inl, inr, ⊎_elim, arith, length-set, get_or-set_other, get_or-set_same}
+use Rattle.std.proofs.lemmas.Bool.{cases_Bool, cases_eq, cases_lt, eqb-true, eq-eqb}
 use Rattle.bus.specs.Bytes.{width, number, word_bytes, low_bytes}
 use Rattle.bus.specs.Block.{byte_in, bytes_in, patched}
-use Rattle.bus.specs.Rules.{Rules, Laws, Steady, Writable, fault, readable, writable, if_aligned, or_else, bytes_at, stored_all, read_answer, writing, write_answer, written}
+use Rattle.bus.specs.Rules.{Rules, Laws, Steady, Writable, readable, writable, or_else, bytes_at, stored_all, read_answer, writing, write_answer, written}
 use Rattle.bus.specs.Cache.{set_of, word_for, held_word, is_held, is_steady, RightLine, Right, keeps, held_after_read}
 use Rattle.bus.specs.declared.line.Line.{Line}
 use Rattle.bus.specs.declared.kind.Kind.{Kind}

@@ -1,10 +1,9 @@
 -- A fork's answers are those of the side that an address falls on. Assumes nothing.
-use Rattle.std.proofs.Common.{◌≡◌, ℕ, zero, suc, ◌+◌, ◌-◌, ◌*◌, ◌/◌, ◌%◌, ◌<◌, ◌≤◌, Bool, true, false, cond, eqb, ltb, ◌⊎◌, List, [], ◌∷◌, length, Ok, Err, sym, refl, ap, ◌∙◌, inl, inr, ⊎_elim, arith}
-use Rattle.std.proofs.lemmas.Bool.{lt-ltb, le-ltb, cond-true, cond-false, cases_Bool, eqb-true}
-use Rattle.std.proofs.lemmas.Bool.Decides.{nat_tests}
+use Rattle.std.proofs.Common.{◌≡◌, ℕ, zero, suc, ◌+◌, ◌-◌, ◌%◌, ◌<◌, ◌≤◌, Bool, true, false, cond, eqb, List, [], ◌∷◌, length, Err, refl, ap, arith}
+use Rattle.std.proofs.lemmas.Bool.{lt-ltb, le-ltb, eqb-true}
 use Rattle.bus.proofs.Words.{low_length}
 use Rattle.bus.specs.Bytes.{width, number, low_bytes}
-use Rattle.bus.specs.Rules.{Rules, readable, writable, or_else, bytes_at, stored_all, read_answer, writing, write_answer, written}
+use Rattle.bus.specs.Rules.{Rules, readable, writable, or_else, bytes_at, stored_all, read_answer, write_answer, written}
 use Rattle.bus.specs.Fork.{Both, border, is_low, with_low, with_high, fork_rules}
 use Rattle.bus.specs.declared.kind.Kind.{Kind}
 use Rattle.bus.specs.declared.kind.Kind.TheVariants.{Absent, Rom, Memory, Device}

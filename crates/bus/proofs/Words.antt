@@ -1,7 +1,7 @@
 -- Words and their four bytes, and blocks of bytes with some replaced. Assumes nothing.
-use Rattle.std.proofs.Common.{◌≡◌, ℕ, zero, suc, ◌+◌, ◌*◌, ◌/◌, ◌%◌, ◌<◌, ◌≤◌, ◌≢◌, ◌⊎◌, List, [], ◌∷◌, length, get_or, set, replicate, sym, refl, ap, ◌∙◌, inl, inr, ⊎_elim, arith, length-set}
+use Rattle.std.proofs.Common.{◌≡◌, ℕ, zero, suc, ◌+◌, ◌*◌, ◌/◌, ◌%◌, ◌<◌, List, [], ◌∷◌, length, get_or, set, replicate, refl, ◌∙◌, arith, length-set}
 use Rattle.bus.specs.Bytes.{width, number, word_bytes, low_bytes}
-use Rattle.bus.specs.Block.{byte_in, bytes_in, patched}
+use Rattle.bus.specs.Block.{patched}
 use Rattle.bus.specs.declared.size.Size.{Size}
 use Rattle.bus.specs.declared.size.Size.TheVariants.{Byte, Half, Word}
 

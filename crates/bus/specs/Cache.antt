@@ -1,7 +1,7 @@
 -- What a cache holds: at most one word for each of 256 sets, each the word that lies below.
 use Rattle.std.specs.Prelude.{◌≡◌, ℕ, ◌*◌, ◌/◌, ◌%◌, Bool, true, false, cond, ◌&&◌, List, is_some, is_ok, Some, None, Option, ◌==◌, slice_index_or}
 use Rattle.bus.specs.Bytes.{number}
-use Rattle.bus.specs.Rules.{Rules, Steady, bytes_at, read_answer}
+use Rattle.bus.specs.Rules.{Rules, bytes_at, read_answer}
 use Rattle.bus.specs.declared.line.Line.{Line}
 use Rattle.bus.specs.declared.kind.Kind.{Kind}
 use Rattle.bus.specs.declared.kind.Kind.TheVariants.{Absent, Rom, Memory, Device}

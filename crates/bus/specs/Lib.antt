@@ -2,6 +2,7 @@ pub mod Block
 pub mod Bytes
 pub mod Cache
 pub mod Fork
+pub mod ForkLaws
 pub mod Number
 pub mod Port
 pub mod Rules

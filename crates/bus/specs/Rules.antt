@@ -1,5 +1,5 @@
 -- What a bus means, whatever its make, and what its calls do to that meaning.
-use Rattle.std.specs.Prelude.{◌≡◌, ℕ, zero, suc, ◌+◌, ◌*◌, ◌/◌, ◌%◌, ◌<◌, Bool, true, false, cond, List, [], ◌∷◌, Ok, Err, Result, ◌==◌, ◌≢◌}
+use Rattle.std.specs.Prelude.{◌≡◌, ℕ, zero, suc, ◌+◌, ◌*◌, ◌/◌, ◌%◌, ◌<◌, cond, List, [], ◌∷◌, Ok, Err, Result, ◌==◌, ◌≢◌}
 use Rattle.bus.specs.Bytes.{width, number, low_bytes}
 use Rattle.bus.specs.declared.size.Size.{Size}
 use Rattle.bus.specs.declared.kind.Kind.{Kind}

@@ -1,5 +1,5 @@
 -- What a timer means: sixteen device bytes, the words period, count, control and status, and one line.
-use Rattle.std.specs.Prelude.{ℕ, ◌-◌, ◌/◌, ◌%◌, ◌^◌, Bool, cond, ◌&&◌, List, [], set, ◌==◌, slice_set}
+use Rattle.std.specs.Prelude.{ℕ, ◌-◌, ◌/◌, ◌%◌, ◌^◌, Bool, cond, ◌&&◌, List, [], ◌==◌, slice_set}
 use Rattle.bus.specs.Block.{covered, home_in, byte_in, word_in, with_word}
 use Rattle.bus.specs.Rules.{Rules}
 use Rattle.bus.specs.declared.kind.Kind.TheVariants.{Device}

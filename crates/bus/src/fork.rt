@@ -1,7 +1,7 @@
 // A fork: two buses side by side, the low one below a split address and the high one from there on.
 ghost use Rattle.std.specs.Prelude.{◌≡◌, ◌*◌, ◌/◌, ◌%◌};
 ghost use Rattle.bus.specs.Fork.{Both, both, fork_rules};
-ghost use Rattle.std.proofs.Common.{rules, arith};
+ghost use Rattle.bus.specs.ForkLaws.{fork_laws};
 
 use crate::fault::Fault;
 use crate::interface::Bus;
@@ -40,7 +40,7 @@ impl<L: Bus, H: Bus> Bus for Fork<L, H> {
 
     ghost sound = { λ f. L.Bus.sound f.low × H.Bus.sound f.high };
 
-    ghost lawful = { first_of (Prim.search rules, Prim.grind (arith, Self.row.coded.inj)) };
+    ghost lawful = { fork_laws L.Bus.rules H.Bus.rules L.Bus.lawful H.Bus.lawful };
 
     fn kind(&self, address: u32) -> Kind {
         if address < self.split {

@@ -1,4 +1,6 @@
 // The bus of an LM32 board: what every bus means, and the makes of bus.
+#![tactic(auto)]
+
 mod access;
 mod block;
 mod cache;

@@ -1,4 +1,4 @@
-use Rattle.std.proofs.Common.{sym, ◌∙◌, arith, rules}
+use Rattle.std.proofs.Common.{rules}
 use Rattle.bus.proofs.Words.{number_of_four, length-patched}
 use Rattle.bus.proofs.lanes.merge.Goals as goal
 

@@ -1,4 +1,4 @@
-use Rattle.std.proofs.Common.{◌/◌, is_some, None, sym, refl, ap, subst, rules}
+use Rattle.std.proofs.Common.{◌/◌, is_some, None, sym, refl, ap, subst}
 use Rattle.bus.specs.Cache.{RightLine, word_for, set_of}
 use Rattle.bus.proofs.Words.{same_everywhere}
 use Rattle.bus.proofs.cache.Cache.new.Goals as goal

@@ -1,4 +1,4 @@
-use Rattle.std.proofs.Common.{◌≡◌, ◌/◌, set, Some, None, Ok, sym, refl, ap, ◌∙◌, subst, rules}
+use Rattle.std.proofs.Common.{◌≡◌, ◌/◌, set, Some, None, Ok, sym, refl, ap, ◌∙◌, subst}
 use Rattle.bus.specs.Cache.{Right, held_word, is_held}
 use Rattle.bus.specs.Rules.{write_answer}
 use Rattle.bus.proofs.Held.{entry, held_set, held_hit}

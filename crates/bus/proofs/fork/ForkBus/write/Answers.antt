@@ -1,4 +1,4 @@
-use Rattle.std.proofs.Common.{◌≡◌, sym, ap, ◌∙◌, arith, rules}
+use Rattle.std.proofs.Common.{sym, ap, ◌∙◌, arith, rules}
 use Rattle.bus.specs.Fork.{both}
 use Rattle.bus.proofs.Sides.{answer_high, written_high}
 use Rattle.bus.proofs.fork.ForkBus.write.Goals as goal

@@ -1,7 +1,6 @@
 use Rattle.std.proofs.Common.{◌≡◌, ◌∙◌, arith, rules}
 use Rattle.std.proofs.lemmas.List.{take_at}
-use Rattle.bus.specs.Bytes.{low_bytes}
-use Rattle.bus.specs.Block.{patched, ram_rules}
+use Rattle.bus.specs.Block.{ram_rules}
 use Rattle.bus.specs.Rules.{written}
 use Rattle.bus.proofs.ram.RamBus.write.Goals as goal
 
