@@ -9,7 +9,7 @@ pub returns-then-at-from : goal.returns-then-at-from
 returns-then-at-from g c =
     let memory = memory_in g.B.Bus.rules (g.B.Bus.means c.args.bus.now) in
     let bytes = c.args.bytes.now in
-    let i = c.loop-b.-b-index in
+    let i = c.loop-b._b-index in
     let at = c.loop-b.at in
     elim c.then-at-from.branch [
       | then-at-from-via-then-at-from w ↦ record { value = byte_past memory at bytes i (omega arith) (omega arith) ∙ c.loop-b.invariant.0 }
@@ -18,7 +18,7 @@ returns-then-at-from g c =
 
 pub loop-b-preserved : goal.loop-b-preserved
 loop-b-preserved g c = (
-  byte_on (memory_in g.B.Bus.rules (g.B.Bus.means c.args.bus.now)) c.loop-b.at c.args.bytes.now c.loop-b.-b-index (omega arith) (omega arith) (sym c.if-not-is_memory.ensures.value) ∙ c.loop-b.invariant.0,
+  byte_on (memory_in g.B.Bus.rules (g.B.Bus.means c.args.bus.now)) c.loop-b.at c.args.bytes.now c.loop-b._b-index (omega arith) (omega arith) (sym c.if-not-is_memory.ensures.value) ∙ c.loop-b.invariant.0,
   omega arith,
 )
 

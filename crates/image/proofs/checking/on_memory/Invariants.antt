@@ -6,4 +6,4 @@ use Rattle.image.proofs.checking.on_memory.Given as goal
 
 abbrev pub invariant-loop-b : goal.invariant-loop-b
 invariant-loop-b g l =
-    (on_memory (memory_in g.B.Bus.rules (g.B.Bus.means l.bus)) l.at (drop l.-b-index l.bytes) ≡ on_memory (memory_in g.B.Bus.rules (g.B.Bus.means l.bus)) l.address l.bytes) × (l.at ≤ 2 ^ 32)
+    (on_memory (memory_in g.B.Bus.rules (g.B.Bus.means l.bus)) l.at (drop l._b-index l.bytes) ≡ on_memory (memory_in g.B.Bus.rules (g.B.Bus.means l.bus)) l.address l.bytes) × (l.at ≤ 2 ^ 32)
