@@ -21,7 +21,7 @@ returns c =
     let cache = c.new-4.ensures in
     let memory : vec_items bus.low.below.bytes ≡ replicate 4096 0 =
     ap (λ l. vec_items l.below.bytes) made-bus.low ∙ ap (λ b. vec_items b.bytes) cache.below ∙ c.new-3.ensures.meaning
-    ∙ c.in_ok-bytes.ensures.items-if-clones-equal (λ y e. e) in
+    ∙ c.in_ok-bytes.ensures.items_if_clones_equal (λ y e. e) in
     let held : Right ram_rules (vec_items c.new-3.result.bytes) c.new-4.result.lines = cache.right in
     record {
       meaning =

@@ -24,7 +24,7 @@ returns c =
     (record { registers = bus.high.high.registers; gone = vec_items bus.high.high.gone; room = bus.high.high.room })) in
     let memory : vec_items bus.low.below.bytes ≡ replicate 4096 0 =
     ap (λ l. vec_items l.below.bytes) made-bus.low ∙ ap (λ b. vec_items b.bytes) c.new-4.ensures.below ∙ c.new-3.ensures.meaning
-    ∙ c.in_ok-bytes.ensures.items-if-clones-equal (λ y e. e) in
+    ∙ c.in_ok-bytes.ensures.items_if_clones_equal (λ y e. e) in
     let same : m ≡ first_meaning (replicate 4096 0) =
     same_board made-bus.split memory
     (ap (λ h. h.split) made-bus.high ∙ devices.split)
