@@ -26,7 +26,7 @@ returns-in-Ok-load g c =
     let told : load_answer b.rules s image ≡ accepted c.in-Ok-load.field-0 =
     sym (ap (λ x. load_answer b.rules x image) first) ∙ sym c.load.ensures.answer ∙ ap answer_in c.in-Ok-load.is in
     let found : c.deref.result.now ≡ lines b.rules 64 1 (loaded_into b.rules s image) =
-    c.deref.ensures.value ∙ c.in_ok-lines.ensures.value ∙ ap (lines b.rules 64 1) after in
+    c.deref.ensures.value ∙ c.in_ok-lines-in-Ok-load.ensures.value ∙ ap (lines b.rules 64 1) after in
     let short : ltb 65536 (length image) ≡ false = le-ltb 65536 (length image) (search rules) in
     let whole : trace_on b.rules m image ≡ trace_text (lines b.rules 64 1 (loaded_into b.rules s image)) =
     cond-false (ltb 65536 (length image)) (refusal_text 0 65536) (after_load b.rules (loaded_into b.rules s image) (load_answer b.rules s image)) short
