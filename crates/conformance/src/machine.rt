@@ -59,7 +59,7 @@ fn image_of(heap: Global, memory: &[u8; MEMORY]) -> Result<String, AllocError> {
     for line in 0..MEMORY / WIDTH {
         let address = WIDTH * line;
         let bytes = &memory[address..address + WIDTH];
-        if bytes != [0; WIDTH] {
+        if bytes != [0; WIDTH].as_slice() {
             image.push_str(data_line(heap, address, bytes)?.as_str())?;
             count += 1;
         }
