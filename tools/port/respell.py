@@ -13,7 +13,6 @@ Only names that .antt files declare outside the answers to goals are turned, and
 """
 import os
 import re
-import subprocess
 import sys
 
 WORD = re.compile(r"[A-Za-z_][A-Za-z0-9_']*(?:-[A-Za-z0-9_'][A-Za-z0-9_']*)*")
@@ -65,7 +64,7 @@ def declared():
 def rename_crate(old, new):
     if not os.path.isdir(f"crates/{old}"):
         return
-    subprocess.run(["git", "mv", f"crates/{old}", f"crates/{new}"], check=True)
+    os.rename(f"crates/{old}", f"crates/{new}")
     text = open("crates.txt").read()
     open("crates.txt", "w").write("".join(l if l.startswith("#") else re.sub(rf"\b{old}\b", new, l) for l in text.splitlines(True)))
     for path in files((".antt", ".rt")):

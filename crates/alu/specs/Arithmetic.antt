@@ -6,7 +6,6 @@ use Rattle.isa.specs.declared.operation.BinaryOp.{BinaryOp}
 use Rattle.isa.specs.declared.operation.BinaryOp.TheVariants.{Nor, Mul, Xor, And, Xnor, Add, Or, Cmpe, Cmpg, Cmpge, Cmpgeu, Cmpgu, Cmpne}
 use Rattle.isa.specs.declared.operation.DivideOp.{DivideOp}
 use Rattle.isa.specs.declared.operation.DivideOp.TheVariants.{Divu, Modu}
-use Rattle.isa.specs.declared.operation.HighOp.{HighOp}
 use Rattle.isa.specs.declared.operation.HighOp.TheVariants.{Andhi, Orhi}
 use Rattle.isa.specs.declared.operation.ImmediateOp.{ImmediateOp}
 use Rattle.isa.specs.declared.operation.ImmediateOp.TheVariants.{Binary, High}

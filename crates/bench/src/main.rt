@@ -1,4 +1,6 @@
 // Runs a workload on the programs' board for a number of steps, the last of its arguments, and prints what was done.
+#![tactic(auto)]
+
 use board::Board;
 use bus::Bus;
 use layout::{board_bus, board_config};

@@ -1,6 +1,5 @@
 -- Power gives an aligned processor, and a step keeps it so. Assumes nothing.
-use Rattle.std.proofs.Common.{◌≡◌, ℕ, ◌+◌, ◌*◌, ◌/◌, ◌%◌, ◌^◌, Bool, true, false, cond, List, Some, None, Ok, Err, Option, Result, sym, refl, ap, ◌∙◌, subst, arith}
-use Rattle.isa.specs.Decode.{decoded}
+use Rattle.std.proofs.Common.{◌≡◌, ℕ, ◌+◌, ◌*◌, ◌%◌, ◌^◌, Bool, true, false, cond, List, Ok, Err, Result, refl, ap, ◌∙◌, subst, arith}
 use Rattle.isa.specs.declared.instruction.Instruction.{Instruction}
 use Rattle.isa.specs.declared.operation.JumpOp.{JumpOp}
 use Rattle.isa.specs.declared.operation.JumpOp.TheVariants.{B, Call}
@@ -11,22 +10,18 @@ use Rattle.bus.specs.Rules.{Rules}
 use Rattle.bus.specs.declared.fault.Fault.{Fault}
 use Rattle.cpu.specs.Config.{debugs}
 use Rattle.cpu.specs.Csr.{csr_named, configured_breakpoint, status_written}
-use Rattle.cpu.specs.Entry.{base, handler, entered}
-use Rattle.cpu.specs.Exception.{exception_number, while_fetching, while_executing}
+use Rattle.cpu.specs.Entry.{base}
+use Rattle.cpu.specs.Exception.{exception_number}
 use Rattle.cpu.specs.Flow.{following, reached, linked}
 use Rattle.cpu.specs.State.{base_of, reg, reset}
-use Rattle.cpu.specs.declared.answer.Answer.{Answer}
-use Rattle.cpu.specs.declared.answer.Stop.{Stop}
 use Rattle.cpu.specs.declared.config.Config.{Config}
 use Rattle.cpu.specs.declared.csr.Csr.{Csr}
 use Rattle.cpu.specs.declared.csr.Csr.TheVariants.{Ie, Im, Ip, Cc, Cfg, Eba, Dc, Deba, Breakpoint, Other}
-use Rattle.cpu.specs.declared.exception.Exception.{Exception}
-use Rattle.cpu.specs.declared.exception.Exception.TheVariants as exceptions
 use Rattle.cpu.specs.declared.processor.Processor.{Processor}
 use Rattle.cpu.specs.declared.processor.Status.{Status}
 use Rattle.cpu.specs.declared.reason.Trouble.{Trouble}
 use Rattle.board.specs.Alignment.{Aligned}
-use Rattle.board.specs.Execute.{barred, executed, put, after_load, after_store}
+use Rattle.board.specs.Execute.{executed, put, after_load, after_store}
 use Rattle.board.specs.Machine.{Machine}
 use Rattle.board.specs.Step.{noted, stepped}
 use Rattle.board.proofs.StepCases.{step_cases}

@@ -1,12 +1,11 @@
 -- The counter over one step, and that a stop leaves the machine as it was. Assumes nothing.
-use Rattle.std.proofs.Common.{◌≡◌, ℕ, ◌+◌, ◌%◌, ◌^◌, Bool, true, false, cond, Some, None, Ok, Err, Option, Result, sym, refl, ap, ◌∙◌, subst}
+use Rattle.std.proofs.Common.{◌≡◌, ℕ, ◌+◌, ◌%◌, ◌^◌, Bool, true, false, cond, Ok, Err, Result, refl, ap, subst}
 use Rattle.isa.specs.declared.instruction.Instruction.{Instruction}
 use Rattle.isa.specs.declared.operation.JumpOp.{JumpOp}
 use Rattle.isa.specs.declared.operation.JumpOp.TheVariants.{B, Call}
 use Rattle.isa.specs.declared.operation.LoadOp.{LoadOp}
 use Rattle.isa.specs.declared.register.Register.{Register}
 use Rattle.alu.specs.Compare.{branches}
-use Rattle.isa.specs.Decode.{decoded}
 use Rattle.bus.specs.Rules.{Rules}
 use Rattle.bus.specs.declared.fault.Fault.{Fault}
 use Rattle.cpu.specs.Config.{debugs}
@@ -18,11 +17,9 @@ use Rattle.cpu.specs.declared.csr.Csr.TheVariants.{Ie, Im, Ip, Cc, Cfg, Eba, Dc,
 use Rattle.cpu.specs.declared.processor.Processor.{Processor}
 use Rattle.cpu.specs.declared.processor.Status.{Status}
 use Rattle.cpu.specs.declared.answer.Answer.{Answer}
-use Rattle.cpu.specs.declared.answer.Stop.{Stop}
-use Rattle.cpu.specs.declared.exception.Exception.{Exception}
 use Rattle.cpu.specs.declared.reason.Trouble.{Trouble}
 use Rattle.board.specs.Counter.{counter_after, UnchangedByStop}
-use Rattle.board.specs.Execute.{barred, executed, put, after_load, after_store}
+use Rattle.board.specs.Execute.{executed, put, after_load, after_store}
 use Rattle.board.specs.Machine.{Machine}
 use Rattle.board.specs.Step.{noted, stepped}
 use Rattle.board.proofs.StepCases.{step_cases}

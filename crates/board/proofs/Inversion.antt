@@ -1,10 +1,9 @@
 -- What an answer of a step says of how it came about. Assumes nothing.
-use Rattle.std.proofs.Common.{◌≡◌, ℕ, ◌+◌, ◌*◌, ◌/◌, Some, Ok, sym, refl, ap, ◌∙◌, subst, arith}
+use Rattle.std.proofs.Common.{◌≡◌, ℕ, Some, Ok, refl, ap, subst, arith}
 use Rattle.isa.specs.Decode.{decoded}
 use Rattle.isa.specs.declared.instruction.Instruction.{Instruction}
 use Rattle.bus.specs.Rules.{Rules}
-use Rattle.cpu.specs.declared.answer.Answer.{Answer}
-use Rattle.cpu.specs.declared.answer.Answer.TheVariants.{Done, Taken, Stopped}
+use Rattle.cpu.specs.declared.answer.Answer.TheVariants.{Done, Taken}
 use Rattle.cpu.specs.declared.exception.Exception.{Exception}
 use Rattle.board.specs.Execute.{executed}
 use Rattle.board.specs.Machine.{Machine}

@@ -1,5 +1,5 @@
 -- Bytes and lines put on memory, one by one.
-use Rattle.std.proofs.Common.{◌≡◌, ℕ, ◌+◌, ◌%◌, ◌^◌, ◌<◌, true, ◌&&◌, eqb, ltb, List, [], ◌∷◌, length, get_or, drop, Some, Ok, Err, Result, sym, refl, ap, ◌∙◌, subst, arith}
+use Rattle.std.proofs.Common.{◌≡◌, ℕ, ◌+◌, ◌%◌, ◌^◌, ◌<◌, true, ◌&&◌, ltb, List, [], ◌∷◌, length, get_or, drop, Some, Ok, Err, Result, sym, refl, ap, ◌∙◌, subst, arith}
 use Rattle.std.proofs.lemmas.List.{at_drop_more}
 use Rattle.std.proofs.lemmas.Bool.{and_parts, ltb-true, eq-eqb}
 use Rattle.std.specs.List.{AllByRecursion as All}
@@ -11,7 +11,7 @@ use Rattle.bus.specs.declared.kind.Kind.TheVariants.{Absent, Rom, Memory, Device
 use Rattle.bus.specs.declared.size.Size.TheVariants.{Byte}
 use Rattle.image.specs.Checking.{on_memory, data_first, data_of}
 use Rattle.image.specs.Format.{Data}
-use Rattle.image.specs.Lines.{line, lines_of, LineAt}
+use Rattle.image.specs.Lines.{lines_of, LineAt}
 use Rattle.image.specs.Memory.{is_memory, memory_in}
 use Rattle.image.specs.Reading.{data_line, read_line}
 use Rattle.board.specs.Load.{put_data}

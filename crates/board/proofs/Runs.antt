@@ -1,5 +1,5 @@
 -- A run, one step at a time: what it has counted, with what is left, is what it counts in all. Assumes nothing.
-use Rattle.std.proofs.Common.{◌≡◌, ℕ, zero, suc, ◌+◌, ◌-◌, ◌<◌, ◌≤◌, List, [], ◌∷◌, sym, refl, ap, ◌∙◌, arith}
+use Rattle.std.proofs.Common.{◌≡◌, ℕ, suc, ◌+◌, ◌-◌, ◌<◌, ◌≤◌, List, [], ◌∷◌, sym, refl, ap, ◌∙◌, arith}
 use Rattle.bus.specs.Rules.{Rules}
 use Rattle.cpu.specs.Exception.{stop_number}
 use Rattle.cpu.specs.declared.answer.Answer.{Answer}

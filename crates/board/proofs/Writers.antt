@@ -1,7 +1,6 @@
 -- A step writes only what it is said to write. Assumes nothing.
-use Rattle.std.proofs.Common.{◌≡◌, ℕ, zero, suc, Bool, true, false, cond, not, ◌&&◌, eqb, ◌≢◌, List, [], ◌∷◌, length, get_or, drop, set, Some, None, Ok, Err, Option, Result, sym, refl, ap, ◌∙◌, subst, arith, length-set, get_or-set_other}
+use Rattle.std.proofs.Common.{◌≡◌, ℕ, zero, suc, Bool, true, false, cond, not, ◌&&◌, eqb, List, [], ◌∷◌, length, get_or, drop, set, Some, Ok, Err, Result, sym, refl, ap, ◌∙◌, subst, arith, length-set, get_or-set_other}
 use Rattle.std.proofs.lemmas.Bool.{eqb-false, not-true, and_parts}
-use Rattle.isa.specs.Decode.{decoded}
 use Rattle.isa.specs.declared.instruction.Instruction.{Instruction}
 use Rattle.isa.specs.declared.operation.JumpOp.{JumpOp}
 use Rattle.isa.specs.declared.operation.JumpOp.TheVariants.{B, Call}
@@ -17,17 +16,13 @@ use Rattle.cpu.specs.Entry.{saved_in}
 use Rattle.cpu.specs.Exception.{is_breakpoint}
 use Rattle.cpu.specs.Flow.{linked, returned}
 use Rattle.cpu.specs.State.{reg}
-use Rattle.cpu.specs.declared.answer.Answer.{Answer}
-use Rattle.cpu.specs.declared.answer.Answer.TheVariants.{Done, Taken, Stopped}
-use Rattle.cpu.specs.declared.answer.Stop.{Stop}
 use Rattle.cpu.specs.declared.csr.Csr.{Csr}
 use Rattle.cpu.specs.declared.csr.Csr.TheVariants.{Ie, Im, Ip, Cc, Cfg, Eba, Dc, Deba, Breakpoint, Other}
 use Rattle.cpu.specs.declared.enable.Enable.{Enable}
-use Rattle.cpu.specs.declared.exception.Exception.{Exception}
 use Rattle.cpu.specs.declared.processor.Processor.{Processor}
 use Rattle.cpu.specs.declared.processor.Status.{Status}
 use Rattle.cpu.specs.declared.reason.Trouble.{Trouble}
-use Rattle.board.specs.Execute.{barred, executed, put, after_load, after_store}
+use Rattle.board.specs.Execute.{executed, put, after_load, after_store}
 use Rattle.board.specs.Machine.{Machine}
 use Rattle.board.specs.Step.{noted, stepped}
 use Rattle.board.proofs.StepCases.{step_cases}

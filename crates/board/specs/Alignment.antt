@@ -1,5 +1,5 @@
 -- What every processor keeps: the PC is a multiple of 4, the exception bases are multiples of 256.
-use Rattle.std.specs.Prelude.{◌≡◌, ℕ, ◌%◌}
+use Rattle.std.specs.Prelude.{◌≡◌, ◌%◌}
 use Rattle.cpu.specs.declared.processor.Processor.{Processor}
 
 pub record Aligned (p : Processor) : Type 0 where

@@ -6,7 +6,7 @@ use Rattle.bus.specs.declared.size.Size.TheVariants.{Byte}
 use Rattle.cpu.specs.Show.{shown}
 use Rattle.cpu.specs.State.{with_outside}
 use Rattle.cpu.specs.declared.processor.Processor.{Processor}
-use Rattle.board.specs.Machine.{Machine, with_cpu}
+use Rattle.board.specs.Machine.{Machine}
 use Rattle.board.specs.declared.refusals.LinesRefused.{LinesRefused}
 use Rattle.board.specs.declared.refusals.ShowRefused.{ShowRefused}
 

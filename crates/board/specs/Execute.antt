@@ -1,9 +1,8 @@
 -- What each form of instruction does to a machine, or what keeps it from being done.
-use Rattle.std.specs.Prelude.{ℕ, ◌%◌, Bool, true, false, cond, Some, None, Ok, Err, Option, Result, ◌==◌}
+use Rattle.std.specs.Prelude.{ℕ, ◌%◌, Bool, true, cond, Some, None, Ok, Err, Option, Result, ◌==◌}
 use Rattle.std.specs.Option.{ok_or}
 use Rattle.isa.specs.declared.instruction.Instruction.{Instruction}
 use Rattle.isa.specs.declared.operation.LoadOp.{LoadOp}
-use Rattle.isa.specs.declared.operation.StoreOp.{StoreOp}
 use Rattle.isa.specs.declared.operation.RaiseOp.{RaiseOp}
 use Rattle.isa.specs.declared.operation.RegisterOp.{RegisterOp}
 use Rattle.isa.specs.declared.register.Register.{Register}

@@ -15,7 +15,6 @@ use Rattle.cpu.specs.declared.answer.Stop.{Stop}
 use Rattle.cpu.specs.declared.answer.Stop.TheVariants.{Reserved}
 use Rattle.cpu.specs.declared.exception.Exception.{Exception}
 use Rattle.cpu.specs.declared.exception.Exception.TheVariants.{Breakpoint, Interrupt}
-use Rattle.cpu.specs.declared.processor.Processor.{Processor}
 use Rattle.cpu.specs.declared.reason.Trouble.{Trouble}
 use Rattle.cpu.specs.declared.reason.Trouble.TheVariants.{Bus}
 use Rattle.board.specs.Execute.{barred, executed}

@@ -1,5 +1,5 @@
 -- What a step writes of the registers, and of the bits that exceptions save for their returns.
-use Rattle.std.specs.Prelude.{◌≡◌, ℕ, Bool, true, false, not, Some, None, Option, ◌==◌, slice_index}
+use Rattle.std.specs.Prelude.{◌≡◌, ℕ, Bool, false, not, Some, None, Option, ◌==◌, slice_index}
 use Rattle.isa.specs.Decode.{decoded}
 use Rattle.isa.specs.declared.instruction.Instruction.{Instruction}
 use Rattle.isa.specs.declared.operation.JumpOp.{JumpOp}

@@ -1,4 +1,6 @@
 // The board: a processor on a bus, and the calls that a bench makes of it.
+#![tactic(auto)]
+
 pub mod access;
 pub mod calls;
 pub mod execute;

@@ -1,4 +1,6 @@
 // Runs the cases of vectors.txt on the board, and tells which of them end otherwise than on the simulator that wrote them.
+#![tactic(auto)]
+
 mod case;
 mod comparing;
 mod difference;

@@ -1,5 +1,5 @@
 -- The control and status registers: which number is which, what each reads, and what a write to each does.
-use Rattle.std.specs.Prelude.{ℕ, ◌-◌, ◌*◌, ◌/◌, ◌%◌, Bool, true, false, cond, ◌&&◌, List, [], ◌∷◌, bit_and, nat_lt, slice_index_or, slice_set}
+use Rattle.std.specs.Prelude.{ℕ, ◌-◌, ◌*◌, ◌/◌, ◌%◌, Bool, cond, ◌&&◌, List, [], ◌∷◌, bit_and, nat_lt, slice_index_or, slice_set}
 use Rattle.alu.specs.Arithmetic.{complement}
 use Rattle.cpu.specs.Config.{has_bit, counts, debugs, breakpoint_count}
 use Rattle.cpu.specs.Enable.{enable_word, enable_of}

@@ -1,5 +1,5 @@
 -- The three bits of the CSR IE: what exceptions save there, and what returns bring back.
-use Rattle.std.specs.Prelude.{ℕ, ◌+◌, ◌*◌, ◌/◌, ◌%◌, Bool, true, false, cond, ◌==◌}
+use Rattle.std.specs.Prelude.{ℕ, ◌+◌, ◌*◌, ◌/◌, ◌%◌, Bool, false, ◌==◌}
 use Rattle.alu.specs.Arithmetic.{flag}
 use Rattle.cpu.specs.declared.enable.Enable.{Enable}
 

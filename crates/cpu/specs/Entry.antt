@@ -1,5 +1,5 @@
 -- How an exception is entered: what it saves, and where the program goes on.
-use Rattle.std.specs.Prelude.{ℕ, ◌+◌, ◌*◌, ◌%◌, ◌^◌, Bool, cond, ◌&&◌, ◌||◌}
+use Rattle.std.specs.Prelude.{ℕ, ◌+◌, ◌*◌, ◌%◌, ◌^◌, cond, ◌&&◌, ◌||◌}
 use Rattle.cpu.specs.Config.{debugs}
 use Rattle.cpu.specs.Enable.{saved_by_exception, saved_by_breakpoint}
 use Rattle.cpu.specs.Exception.{exception_number, is_breakpoint}

@@ -1,4 +1,6 @@
 // The LM32 processor: its configuration, its registers, and what instructions and exceptions do to them.
+#![tactic(auto)]
+
 pub mod answer;
 pub mod config;
 pub mod configured;

@@ -1,4 +1,6 @@
 // Runs each example image, and compares its trace with the one that stands beside it. Then the longest input, and one byte more.
+#![tactic(auto)]
+
 use std::{fs, io};
 use tracer::trace_image;
 

@@ -1,4 +1,6 @@
 // Upper-case hexadecimal text of a fixed count of digits, written and read.
+#![tactic(auto)]
+
 mod read;
 mod write;
 

@@ -1,13 +1,13 @@
 -- An accepted image is the text of its data lines, and the text of loadable data lines is accepted.
-use Rattle.std.proofs.Common.{◌≡◌, ℕ, zero, suc, ◌+◌, ◌/◌, ◌%◌, ◌^◌, ◌<◌, ◌≤◌, Bool, true, false, cond, ◌&&◌, eqb, ltb, List, [], ◌∷◌, ◌++◌, length, codes, sym, refl, ap, ◌∙◌, arith}
+use Rattle.std.proofs.Common.{◌≡◌, ℕ, zero, suc, ◌+◌, ◌/◌, ◌%◌, ◌^◌, ◌<◌, Bool, true, false, cond, eqb, ltb, List, [], ◌∷◌, ◌++◌, length, codes, sym, refl, ap, ◌∙◌, arith}
 use Rattle.std.specs.List.{flat_map, AllByRecursion as All}
 use Rattle.std.proofs.ByRecursion.{All-append, All-push}
 use Rattle.std.proofs.lemmas.List.{append_assoc}
 use Rattle.std.proofs.lemmas.Bool.{cond-true, cond_both, eqb-true, eq-eqb, ne_eqb}
 use Rattle.hex_text.specs.Digits.{hex_digit, hex_digits}
-use Rattle.image.specs.Acceptance.{Loadable, Accepts}
+use Rattle.image.specs.Acceptance.{Accepts}
 use Rattle.image.specs.Checking.{Answer, accepted, refused, ended, on_memory, check_line, check_from, checked, data_first, data_of, image_data}
-use Rattle.image.specs.Format.{Data, Sound, data_text, end_text, image_text}
+use Rattle.image.specs.Format.{Data, Sound, data_text, end_text}
 use Rattle.image.specs.Lines.{Lines, line, rest, longer, lines_of}
 use Rattle.image.specs.Reading.{Reading, data_line, end_line, malformed, read_line}
 use Rattle.image.proofs.Inverse.{undoes}

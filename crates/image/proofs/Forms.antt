@@ -1,5 +1,5 @@
 -- A line that begins as one of the two forms, read part by part.
-use Rattle.std.proofs.Common.{◌≡◌, ℕ, ◌-◌, true, cond, List, length, take, drop, Some, None, Option, sym, refl, ap, ◌∙◌}
+use Rattle.std.proofs.Common.{◌≡◌, ℕ, ◌-◌, true, cond, List, length, take, drop, None, Option, sym, ap, ◌∙◌}
 use Rattle.std.proofs.lemmas.List.{take_rest}
 use Rattle.hex_text.specs.Digits.{hex_number_in}
 use Rattle.image.specs.Reading.{payload, starts_data, data_from, read_data, starts_end, read_end}

@@ -7,7 +7,7 @@ use Rattle.hex_text.specs.Digits.{hex_digits, hex_number, hex_number_in}
 use Rattle.hex_text.proofs.Inverse.{undoes as digits-undo}
 use Rattle.image.specs.Format.{Data, Sound, data_text, end_text}
 use Rattle.image.specs.Inverse.{Undoes}
-use Rattle.image.specs.Reading.{Reading, data_line, end_line, malformed, has, before, bytes_of, one_to32, payload, starts_data, data_from, read_data, starts_end, read_end, first_of, read_line}
+use Rattle.image.specs.Reading.{Reading, data_line, end_line, has, before, bytes_of, one_to32, payload, starts_data, data_from, read_data, starts_end, read_end, first_of, read_line}
 use Rattle.image.proofs.Pairs.{payload_all}
 
 -- bytes in pairs of digits

@@ -1,8 +1,8 @@
 -- The check, one line or one byte on.
-use Rattle.std.proofs.Common.{◌≡◌, ℕ, ◌+◌, ◌^◌, ◌<◌, ◌≤◌, Bool, true, false, cond, ◌&&◌, eqb, ltb, List, [], ◌∷◌, length, get_or, drop, Some, None, sym, refl, ap, ◌∙◌, arith}
+use Rattle.std.proofs.Common.{◌≡◌, ℕ, ◌+◌, ◌^◌, ◌<◌, ◌≤◌, Bool, true, false, cond, ◌&&◌, eqb, ltb, List, [], ◌∷◌, length, drop, Some, None, sym, refl, ap, ◌∙◌, arith}
 use Rattle.std.proofs.lemmas.List.{at_drop_more, at_drop_all, drop_all, length-drop}
 use Rattle.std.proofs.lemmas.Bool.{and_from, and_left, and_right, lt-ltb, le-ltb}
-use Rattle.image.specs.Checking.{Answer, accepted, refused, ended, on_memory, check_line, check_from, checked}
+use Rattle.image.specs.Checking.{accepted, refused, ended, on_memory, check_line, check_from}
 use Rattle.image.specs.Lines.{Lines, line, rest, longer, lines_of, LineAt}
 use Rattle.image.specs.Reading.{read_line}
 

@@ -1,5 +1,5 @@
 -- The text of an image: data lines, then an end line that counts them, each ended by a line feed.
-use Rattle.std.specs.Prelude.{ℕ, ◌^◌, ◌<◌, ◌≤◌, List, [], ◌∷◌, ◌++◌, length, codes}
+use Rattle.std.specs.Prelude.{ℕ, ◌^◌, ◌<◌, ◌≤◌, List, ◌++◌, length, codes}
 use Rattle.std.specs.List.{flat_map, AllByRecursion as All}
 use Rattle.hex_text.specs.Digits.{hex_digits}
 

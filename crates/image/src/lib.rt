@@ -1,4 +1,6 @@
 // The image format: its lines, and what each of them says.
+#![tactic(auto)]
+
 mod bytes;
 mod checking;
 mod cut;

@@ -1,4 +1,6 @@
 // The LM32 instruction set: which instruction a word is, and which word an instruction is.
+#![tactic(auto)]
+
 mod csr_number;
 mod decode;
 mod encode;

@@ -1,3 +1,5 @@
+#![tactic(auto)]
+
 // Words whose instructions are known beforehand, and words that are reserved.
 #[cfg(test)]
 mod tests {

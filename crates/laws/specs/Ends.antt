@@ -1,5 +1,5 @@
 -- Signed comparison, arithmetic right shift and sign extension at the ends of the range.
-use Rattle.std.specs.Prelude.{◌≡◌, ℕ, Bool, true, false}
+use Rattle.std.specs.Prelude.{◌≡◌, true, false}
 use Rattle.isa.specs.declared.operation.ExtendOp.TheVariants.{Sextb, Sexth}
 use Rattle.isa.specs.declared.operation.ShiftOp.TheVariants.{Sr}
 use Rattle.alu.specs.Compare.{greater, greater_equal, greater_u, greater_equal_u}

@@ -1,5 +1,5 @@
 -- Eight worked examples, shown of the definitions that the contracts cite.
-use Rattle.std.specs.Prelude.{◌≡◌, ℕ, true, false, length, Some, None, slice_index_or}
+use Rattle.std.specs.Prelude.{◌≡◌, true, false, length, Some, None, slice_index_or}
 use Rattle.isa.specs.Decode.{decoded}
 use Rattle.isa.specs.Fields.{register, offset}
 use Rattle.isa.specs.declared.instruction.Instruction.{Instruction}

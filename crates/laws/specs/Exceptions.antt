@@ -1,5 +1,5 @@
 -- What an exception saves and clears, and what its return brings back.
-use Rattle.std.specs.Prelude.{◌≡◌, ℕ, ◌%◌, Bool, true, false, length, ◌≢◌, slice_index}
+use Rattle.std.specs.Prelude.{◌≡◌, ℕ, ◌%◌, true, false, length, ◌≢◌, slice_index}
 use Rattle.isa.specs.Fields.{register}
 use Rattle.isa.specs.declared.operation.JumpOp.TheVariants.{B}
 use Rattle.cpu.specs.Entry.{entered}

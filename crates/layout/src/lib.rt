@@ -1,4 +1,6 @@
 // The board that the programs run on: its bus, and its configuration.
+#![tactic(auto)]
+
 mod bus_of_board;
 mod config;
 

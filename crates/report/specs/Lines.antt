@@ -1,5 +1,5 @@
 -- The lines of a trace: fields with commas between them, each line ended by a line feed.
-use Rattle.std.specs.Prelude.{ℕ, ◌+◌, Bool, true, false, cond, List, [], ◌∷◌, ◌++◌, codes, decimal}
+use Rattle.std.specs.Prelude.{ℕ, ◌+◌, List, [], ◌∷◌, ◌++◌, codes, decimal}
 use Rattle.std.specs.List.{flat_map}
 use Rattle.hex_text.specs.Digits.{hex_digits}
 use Rattle.report.specs.declared.line.StepKind.{StepKind}

@@ -1,4 +1,6 @@
 // The text that a trace prints: numbers, lines and the whole.
+#![tactic(auto)]
+
 mod line;
 mod number;
 mod whole;

@@ -1,10 +1,10 @@
 -- A script, one call at a time. Assumes nothing.
-use Rattle.std.proofs.Common.{◌≡◌, ℕ, ◌+◌, ◌<◌, ◌≤◌, List, [], ◌∷◌, ◌++◌, map, length, get_or, drop, sym, refl, ap, ◌∙◌, append_assoc, append-nil}
+use Rattle.std.proofs.Common.{◌≡◌, ℕ, ◌+◌, ◌<◌, ◌≤◌, List, [], ◌∷◌, ◌++◌, map, length, get_or, drop, sym, ap, ◌∙◌, append_assoc, append-nil}
 use Rattle.std.proofs.lemmas.List.{drop_more, drop_all, map_push}
 use Rattle.bus.specs.Rules.{Rules}
 use Rattle.board.specs.Machine.{Machine}
 use Rattle.script.specs.Account.{tells, after, all_told, finally}
-use Rattle.script.specs.Request.{Request, Told, request, told}
+use Rattle.script.specs.Request.{Told, request, told}
 use Rattle.script.specs.declared.call.Call.{Call}
 use Rattle.script.specs.declared.call.Reply.{Reply}
 

@@ -1,15 +1,14 @@
 -- The counter is the sum of what the replies report. Assumes nothing.
-use Rattle.std.proofs.Common.{◌≡◌, ℕ, zero, suc, ◌+◌, ◌%◌, ◌^◌, Bool, true, false, cond, List, [], ◌∷◌, sym, refl, ap, ◌∙◌, subst, arith}
+use Rattle.std.proofs.Common.{◌≡◌, ℕ, zero, suc, ◌+◌, ◌%◌, ◌^◌, List, [], ◌∷◌, ap, ◌∙◌, arith}
 use Rattle.bus.specs.Rules.{Rules}
 use Rattle.cpu.specs.declared.answer.Answer.{Answer}
 use Rattle.cpu.specs.declared.answer.Answer.TheVariants.{Done, Taken, Stopped}
-use Rattle.cpu.specs.declared.processor.Processor.{Processor}
 use Rattle.board.specs.Counter.{counter_after}
 use Rattle.board.specs.Machine.{Machine}
-use Rattle.board.specs.Run.{Made, step_from, unless_stopped, run_steps, one_done, one_taken, total, last_from}
+use Rattle.board.specs.Run.{Made, unless_stopped, run_steps, one_done, one_taken, total, last_from}
 use Rattle.board.specs.Step as board
 use Rattle.board.proofs.Counter.{step_counts}
-use Rattle.script.specs.Account.{tells, after, all_told, finally, steps}
+use Rattle.script.specs.Account.{tells, after, all_told, finally}
 use Rattle.script.specs.Counter.{reported, all_reported}
 use Rattle.script.specs.Request.{Request, load, lines, look, show, step, run}
 use Rattle.script.proofs.Links.{keeping}

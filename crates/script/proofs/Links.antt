@@ -1,14 +1,14 @@
 -- The steps of an account follow one another. Assumes nothing.
-use Rattle.std.proofs.Common.{◌≡◌, ℕ, zero, suc, Bool, true, false, cond, List, [], ◌∷◌, ◌++◌, sym, refl, ap, ◌∙◌}
+use Rattle.std.proofs.Common.{◌≡◌, ℕ, zero, suc, Bool, true, false, cond, List, [], ◌∷◌, ◌++◌, refl, ◌∙◌}
 use Rattle.bus.specs.Rules.{Rules}
 use Rattle.cpu.specs.declared.answer.Answer.{Answer}
 use Rattle.cpu.specs.declared.answer.Answer.TheVariants.{Done, Taken, Stopped}
 use Rattle.cpu.specs.declared.processor.Processor.{Processor}
 use Rattle.image.specs.Checking as image
-use Rattle.board.specs.Calls.{lines_known, after_lines}
+use Rattle.board.specs.Calls.{lines_known}
 use Rattle.board.specs.Load.{load_answer, if_accepted}
 use Rattle.board.specs.Machine.{Machine, with_cpu}
-use Rattle.board.specs.Run.{Made, step_from, unless_stopped, run_steps, last_from}
+use Rattle.board.specs.Run.{Made, unless_stopped, run_steps, last_from}
 use Rattle.board.specs.Step as board
 use Rattle.script.specs.Account.{after, steps, all_steps}
 use Rattle.script.specs.Request.{Request, load, lines, look, show, step, run}

@@ -1,15 +1,13 @@
 -- Loads, and with them whole scripts, follow the book. Assumes nothing.
-use Rattle.std.proofs.Common.{◌≡◌, ℕ, zero, suc, ◌+◌, ◌*◌, ◌%◌, ◌^◌, ◌<◌, Bool, true, false, cond, ◌&&◌, eqb, ltb, List, [], ◌∷◌, ◌++◌, length, Ok, Err, sym, refl, ap, ◌∙◌, subst, arith}
+use Rattle.std.proofs.Common.{◌≡◌, ℕ, zero, suc, ◌+◌, ◌*◌, ◌%◌, ◌^◌, ◌<◌, Bool, true, cond, ◌&&◌, ltb, List, [], ◌∷◌, length, Ok, Err, sym, refl, ap, ◌∙◌, subst, arith}
 use Rattle.std.specs.List.{AllByRecursion as All}
 use Rattle.std.proofs.lemmas.Bool.{and_parts, eq-eqb}
-use Rattle.bus.specs.Rules.{Rules, Laws, Steady, readable, read_answer, fault}
+use Rattle.bus.specs.Rules.{Rules, Laws, Steady, readable, fault}
 use Rattle.bus.specs.declared.fault.Cause.TheVariants.{Misaligned}
 use Rattle.bus.specs.declared.fault.Home.{Home}
 use Rattle.bus.specs.declared.kind.Kind.{Kind}
 use Rattle.bus.specs.declared.kind.Kind.TheVariants.{Absent, Rom, Memory, Device}
-use Rattle.bus.specs.declared.size.Size.TheVariants.{Byte}
 use Rattle.bus.proofs.Holding.{Below}
-use Rattle.image.specs.Acceptance.{Accepts}
 use Rattle.image.specs.Checking.{Answer, accepted, refused, on_memory, image_data}
 use Rattle.image.specs.Format.{Data, Sound}
 use Rattle.image.specs.Memory.{is_memory, memory_in}
@@ -17,7 +15,7 @@ use Rattle.image.proofs.Acceptance.{accepts}
 use Rattle.board.specs.Load.{put_data, load_answer, if_accepted}
 use Rattle.board.specs.Machine.{Machine}
 use Rattle.script.specs.Account.{tells, after, finally}
-use Rattle.script.specs.Book.{Book, put_bytes, put_lines, book_image, book_call, book_finally, MemoryIsBook}
+use Rattle.script.specs.Book.{Book, put_lines, book_image, book_call, book_finally, MemoryIsBook}
 use Rattle.script.specs.Request.{Request, load, lines, look, show, step, run, looked}
 use Rattle.script.proofs.Booking.{Follows, on_memory_lem}
 use Rattle.script.proofs.StepBook.{stepping, running}

@@ -15,7 +15,7 @@ use Rattle.script.proofs.Counting.{counter_sums}
 use Rattle.script.proofs.Links.{all_linked}
 use Rattle.script.proofs.LoadBook.{memory_is_book}
 use Rattle.script.proofs.Refusing.{touches_nothing}
-use Rattle.script.proofs.Returning.{Good, Linked, resumes_in}
+use Rattle.script.proofs.Returning.{Linked, resumes_in}
 
 module _ {M : Type 0} (r : Rules M) (laws : Laws r) (config : Config) (registers : List ℕ) (all : length registers ≡ 32) (m : M) (script : List Request) where
   abbrev first : Machine M

@@ -1,5 +1,5 @@
 -- A return brings back what its exception saved, if no step between wrote it. Assumes nothing.
-use Rattle.std.proofs.Common.{◌≡◌, ℕ, zero, suc, ◌+◌, ◌*◌, ◌/◌, ◌%◌, ◌<◌, Bool, true, false, cond, List, [], ◌∷◌, ◌++◌, length, get_or, set, Some, Ok, sym, refl, ap, ◌∙◌, subst, arith, get_or-set_same}
+use Rattle.std.proofs.Common.{◌≡◌, ℕ, ◌*◌, ◌/◌, ◌%◌, ◌<◌, Bool, true, false, cond, List, [], ◌∷◌, ◌++◌, length, get_or, Some, Ok, sym, refl, ap, ◌∙◌, subst, arith, get_or-set_same}
 use Rattle.std.specs.List.{AllByRecursion as All}
 use Rattle.isa.specs.Decode.{decoded}
 use Rattle.isa.specs.Fields.{register}
@@ -11,20 +11,20 @@ use Rattle.cpu.specs.Entry.{saved_in}
 use Rattle.cpu.specs.Exception.{is_breakpoint}
 use Rattle.cpu.specs.Flow.{jumped}
 use Rattle.cpu.specs.declared.answer.Answer.{Answer}
-use Rattle.cpu.specs.declared.answer.Answer.TheVariants.{Done, Taken, Stopped}
+use Rattle.cpu.specs.declared.answer.Answer.TheVariants.{Done, Taken}
 use Rattle.cpu.specs.declared.enable.Enable.{Enable}
 use Rattle.cpu.specs.declared.exception.Exception.{Exception}
 use Rattle.cpu.specs.declared.processor.Processor.{Processor}
 use Rattle.board.specs.Alignment.{Aligned}
 use Rattle.board.specs.Execute.{executed}
 use Rattle.board.specs.Machine.{Machine, with_cpu}
-use Rattle.board.specs.Run.{Made, step_from}
+use Rattle.board.specs.Run.{Made}
 use Rattle.board.specs.Step.{noted, departed, settled, stepped}
-use Rattle.board.specs.Writers.{writes_register, writes_eie, writes_bie, WritesOnly}
+use Rattle.board.specs.Writers.{writes_eie, writes_bie, WritesOnly}
 use Rattle.board.proofs.Alignment.{step_aligned}
-use Rattle.board.proofs.Inversion.{DoneBy, done_by, taken_by}
+use Rattle.board.proofs.Inversion.{done_by, taken_by}
 use Rattle.board.proofs.Writers.{step_writes, step_size}
-use Rattle.script.specs.Returns.{return_word, writes_saved_bit, LeavesSaved, Resumes}
+use Rattle.script.specs.Returns.{return_word, LeavesSaved, Resumes}
 
 -- what a return reads of a processor
 abbrev pub saved_bit : Bool → Enable → Bool

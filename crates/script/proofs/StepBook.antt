@@ -1,20 +1,18 @@
 -- A step follows the book. Assumes nothing.
-use Rattle.std.proofs.Common.{◌≡◌, ℕ, zero, suc, Bool, true, false, cond, List, [], ◌∷◌, Some, Ok, Err, Result, sym, refl, ap, ◌∙◌, subst, arith}
-use Rattle.isa.specs.Decode.{decoded}
+use Rattle.std.proofs.Common.{◌≡◌, ℕ, zero, suc, List, Ok, Err, Result, sym, refl, subst}
 use Rattle.isa.specs.declared.instruction.Instruction.{Instruction}
-use Rattle.bus.specs.Rules.{Rules, Laws, write_answer, written, read_answer}
+use Rattle.bus.specs.Rules.{Rules, Laws, write_answer}
 use Rattle.bus.specs.declared.fault.Fault.{Fault}
 use Rattle.isa.specs.declared.operation.LoadOp.{LoadOp}
 use Rattle.isa.specs.declared.register.Register.{Register}
 use Rattle.cpu.specs.State.{reg}
 use Rattle.cpu.specs.declared.answer.Answer.{Answer}
 use Rattle.cpu.specs.declared.answer.Answer.TheVariants.{Done, Taken, Stopped}
-use Rattle.cpu.specs.declared.processor.Processor.{Processor}
 use Rattle.cpu.specs.declared.reason.Trouble.{Trouble}
 use Rattle.board.specs.Data.{store_size, data_address}
 use Rattle.board.specs.Execute.{executed, put, after_load, after_store}
 use Rattle.board.specs.Machine.{Machine}
-use Rattle.board.specs.Run.{Made, step_from, unless_stopped, run_steps, last_from}
+use Rattle.board.specs.Run.{Made, unless_stopped, run_steps, last_from}
 use Rattle.board.specs.Step.{noted, stepped}
 use Rattle.board.proofs.StepCases.{step_cases}
 use Rattle.script.specs.Book.{Book, book_instruction, book_word, book_answer, book_steps}

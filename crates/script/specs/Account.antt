@@ -1,6 +1,6 @@
 -- The account of a script: what each call is told, the machine after it, and the steps that it makes. It is fed the
 -- machine that power gives and the calls, and no answer.
-use Rattle.std.specs.Prelude.{ℕ, List, [], ◌∷◌, ◌++◌}
+use Rattle.std.specs.Prelude.{List, [], ◌∷◌, ◌++◌}
 use Rattle.bus.specs.Rules.{Rules}
 use Rattle.board.specs.Calls.{lines_answer, after_lines, look_answer, show_answer}
 use Rattle.board.specs.Load.{load_answer, loaded_into}

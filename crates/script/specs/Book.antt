@@ -1,6 +1,6 @@
 -- The book of a script: for each address the byte last stored or loaded there, or the first. It is fed by done stores at
 -- memory addresses and by loads, and not by the bus.
-use Rattle.std.specs.Prelude.{◌≡◌, ℕ, ◌+◌, Bool, cond, List, [], ◌∷◌, ◌++◌, Some, None, Ok, Option, ◌==◌}
+use Rattle.std.specs.Prelude.{◌≡◌, ℕ, ◌+◌, cond, List, [], ◌∷◌, ◌++◌, Some, None, Ok, Option, ◌==◌}
 use Rattle.isa.specs.Decode.{decoded}
 use Rattle.isa.specs.declared.instruction.Instruction.{Instruction}
 use Rattle.bus.specs.Bytes.{low_bytes}

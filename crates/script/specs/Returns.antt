@@ -1,5 +1,5 @@
 -- Exceptions and their returns, over the steps of a script.
-use Rattle.std.specs.Prelude.{◌≡◌, ℕ, Bool, true, false, cond, List, [], ◌∷◌, ◌++◌}
+use Rattle.std.specs.Prelude.{◌≡◌, ℕ, Bool, false, cond, List, ◌∷◌, ◌++◌}
 use Rattle.std.specs.List.{AllByRecursion as All}
 use Rattle.cpu.specs.Entry.{saved_in}
 use Rattle.cpu.specs.Exception.{is_breakpoint}

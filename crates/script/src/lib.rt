@@ -1,4 +1,6 @@
 // Scripts of calls, and the promise about them.
+#![tactic(auto)]
+
 mod call;
 mod performing;
 mod playing;

@@ -1,4 +1,6 @@
 // Plays a script of calls on the programs' board: reads it from standard input, one call a line, and prints a line for each reply.
+#![tactic(auto)]
+
 mod reading;
 mod replies;
 

@@ -1,4 +1,6 @@
 // Reads an image from standard input, runs it on the board, and prints the trace.
+#![tactic(auto)]
+
 use std::io;
 use std::io::Read;
 use tracer::trace_image;

@@ -1,4 +1,6 @@
 // What the program `trace` does with an image: the board, its steps, and the text.
+#![tactic(auto)]
+
 mod layout;
 mod stepping;
 mod whole;

@@ -1,5 +1,5 @@
 -- The count is right: bytes follow, or none do.
-use Rattle.std.proofs.Common.{◌≡◌, eqb, sym, ◌∙◌, arith}
+use Rattle.std.proofs.Common.{eqb, sym, ◌∙◌, arith}
 use Rattle.std.proofs.lemmas.Bool.{cond-true, eq-eqb}
 use Rattle.image.proofs.Steps.{ended_before, ended_at_end}
 use Rattle.image.proofs.checking.check_end.Goals as goal

@@ -1,5 +1,5 @@
 -- A byte past the last address or not on memory, a byte on memory, and the last byte.
-use Rattle.std.proofs.Common.{◌≡◌, sym, ◌∙◌, arith, rules}
+use Rattle.std.proofs.Common.{sym, ◌∙◌, arith, rules}
 use Rattle.image.specs.Memory.{memory_in}
 use Rattle.image.proofs.Steps.{byte_on, byte_past, byte_elsewhere, bytes_done}
 use Rattle.image.proofs.checking.on_memory.Goals as goal

@@ -1,5 +1,5 @@
 -- A byte passed, a line feed found, and the end of the image.
-use Rattle.std.proofs.Common.{◌≡◌, ◌+◌, ◌-◌, ◌<◌, length, take, drop, sym, ap, ◌∙◌, arith}
+use Rattle.std.proofs.Common.{◌≡◌, ◌+◌, ◌-◌, length, take, drop, ap, ◌∙◌, arith}
 use Rattle.std.proofs.lemmas.List.{length-take-le, length-drop}
 use Rattle.image.specs.Lines.{line, lines_of}
 use Rattle.image.proofs.Cutting.{passed_more, passed_found, passed_all}

@@ -1,5 +1,5 @@
 -- The address is read and the bytes are not, or both are.
-use Rattle.std.proofs.Common.{◌≡◌, true, sym, ap, ◌∙◌, rules}
+use Rattle.std.proofs.Common.{◌≡◌, true, ap, ◌∙◌, rules}
 use Rattle.std.specs.Option.{option_map}
 use Rattle.image.specs.Meaning.{data_in}
 use Rattle.image.specs.Reading.{starts_data}

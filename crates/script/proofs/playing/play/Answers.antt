@@ -1,4 +1,4 @@
-use Rattle.std.proofs.Common.{◌≡◌, map, length, vec_items, sym, refl, ap, ◌∙◌, subst, arith, rules}
+use Rattle.std.proofs.Common.{◌≡◌, map, length, vec_items, ap, ◌∙◌, arith, rules}
 use Rattle.board.specs.Machine.{seen}
 use Rattle.script.specs.Account.{all_told, finally}
 use Rattle.script.specs.Request.{request, told}

@@ -1,4 +1,4 @@
-use Rattle.std.proofs.Common.{◌≡◌, List, replicate, vec_items, string_bytes, sym, refl, ap, ◌∙◌}
+use Rattle.std.proofs.Common.{◌≡◌, replicate, vec_items, string_bytes, ap, ◌∙◌}
 use Rattle.std.proofs.lemmas.Result.{IfOk-from_err, IfOk-weaker}
 use Rattle.tracer.specs.Layout.{Meaning, rules, first_meaning, traced}
 use Rattle.tracer.specs.Whole.{trace_on}

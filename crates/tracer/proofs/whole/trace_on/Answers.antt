@@ -1,4 +1,4 @@
-use Rattle.std.proofs.Common.{◌≡◌, false, cond, ltb, length, replicate, Ok, vec_items, string_bytes, sym, refl, ap, ◌∙◌, rules}
+use Rattle.std.proofs.Common.{◌≡◌, false, ltb, length, replicate, Ok, string_bytes, sym, ap, ◌∙◌, rules}
 use Rattle.std.proofs.lemmas.Result.{IfOk-weaker}
 use Rattle.std.proofs.lemmas.Bool.{cond-false, le-ltb}
 use Rattle.cpu.specs.Config.{configuration}

@@ -1,6 +1,6 @@
-use Rattle.std.proofs.Common.{◌≡◌, ◌+◌, ◌<◌, sym, refl, ap, ◌∙◌, subst, arith, rules}
+use Rattle.std.proofs.Common.{◌+◌, ◌<◌, sym, ap, ◌∙◌, subst, arith}
 use Rattle.board.specs.Machine.{seen}
-use Rattle.board.proofs.Runs.{Left, Ran, starts, done_more, taken_more, all_made, stopped_at}
+use Rattle.board.proofs.Runs.{Left, starts, done_more, taken_more, all_made, stopped_at}
 use Rattle.board.proofs.machine.Board.run.Goals as goal
 use Rattle.board.proofs.machine.Board.run.Goals.{in-Done, in-Taken}
 

@@ -1,4 +1,4 @@
-use Rattle.std.proofs.Common.{◌≡◌, sym, ap, ◌∙◌, subst, rules}
+use Rattle.std.proofs.Common.{sym, ap, ◌∙◌, subst}
 use Rattle.board.specs.Alignment.{Aligned}
 use Rattle.board.specs.Counter.{counter_after, UnchangedByStop}
 use Rattle.board.specs.Machine.{seen}

@@ -1,5 +1,5 @@
 -- Where no register is on, none matches.
-use Rattle.std.proofs.Common.{◌≡◌, ℕ, ◌/◌, ◌%◌, false, ◌&&◌, eqb, get_or, refl, ap, arith}
+use Rattle.std.proofs.Common.{◌≡◌, ℕ, ◌/◌, ◌%◌, false, ◌&&◌, eqb, get_or, ap, arith}
 use lib.Bits.{bit_or, or_step}
 use Rattle.std.proofs.lemmas.Bool.{ne_eqb}
 use Rattle.cpu.specs.Pending.{matches}
