@@ -2,7 +2,7 @@
 use Rattle.std.proofs.Common.{◌≡◌, ℕ, ◌+◌, ◌%◌, ◌^◌, ◌<◌, true, ◌&&◌, ltb, List, [], ◌∷◌, length, get_or, drop, Some, Ok, Err, Result, sym, refl, ap, ◌∙◌, subst, arith}
 use Rattle.std.proofs.lemmas.List.{at_drop_more}
 use Rattle.std.proofs.lemmas.Bool.{and_parts, ltb-true, eq-eqb}
-use Rattle.std.specs.List.{AllByRecursion as All}
+use Rattle.std.specs.List.{AllByRecursion}
 use Rattle.bus.specs.Rules.{Rules, Laws, writable, or_else, stored_all, writing, written}
 use Rattle.bus.specs.declared.fault.Fault.{Fault}
 use Rattle.bus.specs.declared.fault.Home.{Home}
@@ -29,7 +29,7 @@ on_memory_lem Device h v e = let z : ◌≡◌ {A = ℕ} 0 1 = cc in absurd (ome
 module _ {M : Type 0} (r : Rules M) where
   -- the bytes of all data lines fall on memory
   abbrev pub Placed : M → List Data → Type 0
-  Placed m ds = All (λ d. on_memory (memory_in r m) d.address d.bytes ≡ true) ds
+  Placed m ds = AllByRecursion (λ d. on_memory (memory_in r m) d.address d.bytes ≡ true) ds
 
   module _ (laws : Laws r) where
     -- kinds never change
@@ -80,4 +80,4 @@ module _ {M : Type 0} (r : Rules M) where
       lines_placed laws on =
           let all : Placed m (d ∷ data_of (lines_of (drop (place + length l + 1) image))) = subst (Placed m) line_data on in
           let same : memory_in r m ≡ memory_in r n = sym (ap (memory_in r) put ∙ all_memory laws m d.address d.bytes) in
-          subst (λ f. All (λ x. on_memory f x.address x.bytes ≡ true) (data_of (lines_of (drop (place + length l + 1) image)))) same all.1
+          subst (λ f. AllByRecursion (λ x. on_memory f x.address x.bytes ≡ true) (data_of (lines_of (drop (place + length l + 1) image)))) same all.1

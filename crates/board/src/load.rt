@@ -1,6 +1,6 @@
 // Loading an image into memory.
 ghost use Rattle.std.specs.Prelude.{◌≡◌, true, Ok};
-ghost use Rattle.std.specs.List.{AllByRecursion as All};
+ghost use Rattle.std.specs.List.{AllByRecursion};
 ghost use Rattle.bus.specs.Rules.{stored_all};
 ghost use Rattle.image.specs.Acceptance.{Accepts};
 ghost use Rattle.image.specs.Checking.{on_memory, image_data};
@@ -32,7 +32,7 @@ fn put_bytes<B: Bus>(bus: &mut B, address: u32, bytes: &[u8]) -> Result<(), Faul
 // Puts the bytes of each data line into memory, line by line up to the end line.
 fn put_lines<B: Bus>(bus: &mut B, image: &[u8]) -> Result<(), Fault>
     requires sound { B.Bus.sound bus.old }
-    requires placed { All (λ d. on_memory (memory_in B.Bus.rules (B.Bus.means bus.old)) d.address d.bytes ≡ true) (image_data image.now) }
+    requires placed { AllByRecursion (λ d. on_memory (memory_in B.Bus.rules (B.Bus.means bus.old)) d.address d.bytes ≡ true) (image_data image.now) }
     ensures sound { B.Bus.sound bus.new }
     ensures meaning { B.Bus.means bus.new ≡ put_data B.Bus.rules (B.Bus.means bus.old) (image_data image.now) }
     ensures answer { result ≡ Ok tt }

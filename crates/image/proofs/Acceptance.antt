@@ -1,6 +1,6 @@
 -- An accepted image is the text of its data lines, and the text of loadable data lines is accepted.
 use Rattle.std.proofs.Common.{◌≡◌, ℕ, zero, suc, ◌+◌, ◌/◌, ◌%◌, ◌^◌, ◌<◌, Bool, true, false, cond, eqb, ltb, List, [], ◌∷◌, ◌++◌, length, codes, sym, refl, ap, ◌∙◌, arith}
-use Rattle.std.specs.List.{flat_map, AllByRecursion as All}
+use Rattle.std.specs.List.{flat_map, AllByRecursion}
 use Rattle.std.proofs.ByRecursion.{All-append, All-push}
 use Rattle.std.proofs.lemmas.List.{append_assoc}
 use Rattle.std.proofs.lemmas.Bool.{cond-true, cond_both, eqb-true, eq-eqb, ne_eqb}
@@ -37,8 +37,8 @@ record Run (memory : ℕ → Bool) (count n : ℕ) (ls : Lines) (ds : List Data)
   text : flat ls ≡ data_lines ds ++ (end_text n ++ codes "\n")
   counted : n ≡ count + length ds
   small : n < 2 ^ 32
-  sound : All Sound ds
-  placed : All (λ d. on_memory memory d.address d.bytes ≡ true) ds
+  sound : AllByRecursion Sound ds
+  placed : AllByRecursion (λ d. on_memory memory d.address d.bytes ≡ true) ds
 
 module _ (memory : ℕ → Bool) where
   run_data : {count n : ℕ} {ls : Lines} {ds : List Data} (l : List ℕ) (d : Data) → Sound d → on_memory memory d.address d.bytes ≡ true → l ≡ data_text d → Run memory (count + 1) n ls ds → Run memory count n (line l ls) (d ∷ ds)
@@ -80,7 +80,7 @@ module _ (memory : ℕ → Bool) where
 abbrev NoFeed : ℕ → Type 0
 NoFeed b = b ≡ 10 → ⊥
 
-cut_line : (l more : List ℕ) → All NoFeed l → lines_of (l ++ 10 ∷ more) ≡ line l (lines_of more)
+cut_line : (l more : List ℕ) → AllByRecursion NoFeed l → lines_of (l ++ 10 ∷ more) ≡ line l (lines_of more)
 cut_line [] more none = refl
 cut_line (b ∷ l) more none =
     ap (λ t. cond t (line [] (lines_of (l ++ 10 ∷ more))) (longer b (lines_of (l ++ 10 ∷ more)))) (ne_eqb b 10 none.0) ∙ ap (longer b) (cut_line l more none.1)
@@ -88,19 +88,19 @@ cut_line (b ∷ l) more none =
 digit_no_feed : (d : ℕ) → NoFeed (hex_digit d)
 digit_no_feed d = cond_both (ltb d 10) (48 + d) (55 + d) NoFeed (λ _ e. omega arith) (λ _ e. omega arith)
 
-digits_no_feed : (k n : ℕ) → All NoFeed (hex_digits k n)
+digits_no_feed : (k n : ℕ) → AllByRecursion NoFeed (hex_digits k n)
 digits_no_feed zero n = tt
 digits_no_feed (suc k) n = All-push NoFeed (hex_digits k (n / 16)) (hex_digit (n % 16)) (digits_no_feed k (n / 16)) (digit_no_feed (n % 16))
 
-pairs_no_feed : (bs : List ℕ) → All NoFeed (flat_map (hex_digits 2) bs)
+pairs_no_feed : (bs : List ℕ) → AllByRecursion NoFeed (flat_map (hex_digits 2) bs)
 pairs_no_feed [] = tt
 pairs_no_feed (b ∷ bs) = All-append NoFeed (hex_digits 2 b) (flat_map (hex_digits 2) bs) (digits_no_feed 2 b) (pairs_no_feed bs)
 
-data_no_feed : (d : Data) → All NoFeed (data_text d)
+data_no_feed : (d : Data) → AllByRecursion NoFeed (data_text d)
 data_no_feed d =
     ((λ e. omega arith), ((λ e. omega arith), All-append NoFeed (hex_digits 8 d.address) (codes "," ++ flat_map (hex_digits 2) d.bytes) (digits_no_feed 8 d.address) ((λ e. omega arith), pairs_no_feed d.bytes)))
 
-end_no_feed : (n : ℕ) → All NoFeed (end_text n)
+end_no_feed : (n : ℕ) → AllByRecursion NoFeed (end_text n)
 end_no_feed n = ((λ e. omega arith), ((λ e. omega arith), digits_no_feed 8 n))
 
 module _ (memory : ℕ → Bool) where
@@ -124,7 +124,7 @@ module _ (memory : ℕ → Bool) where
         ap data_of is ∙ ap (λ x. data_first x (data_of more)) r ∙ ap (λ xs. d ∷ xs) (after next).1,
       )
 
-  taken : (ds : List Data) (place count n : ℕ) → n < 2 ^ 32 → n ≡ count + length ds → All Sound ds → All (λ d. on_memory memory d.address d.bytes ≡ true) ds → (check_from memory place count (lines_of (data_lines ds ++ (end_text n ++ codes "\n"))) ≡ accepted n) × (data_of (lines_of (data_lines ds ++ (end_text n ++ codes "\n"))) ≡ ds)
+  taken : (ds : List Data) (place count n : ℕ) → n < 2 ^ 32 → n ≡ count + length ds → AllByRecursion Sound ds → AllByRecursion (λ d. on_memory memory d.address d.bytes ≡ true) ds → (check_from memory place count (lines_of (data_lines ds ++ (end_text n ++ codes "\n"))) ≡ accepted n) × (data_of (lines_of (data_lines ds ++ (end_text n ++ codes "\n"))) ≡ ds)
   taken [] place count n small same sound placed = taken_end place count n small (omega arith) _ (cut_line (end_text n) [] (end_no_feed n))
   taken (d ∷ ds) place count n small same sound placed =
       let more = data_lines ds ++ (end_text n ++ codes "\n") in

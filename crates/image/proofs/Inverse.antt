@@ -1,6 +1,6 @@
 -- A line is read as a data line or an end line just where it is the text of one.
 use Rattle.std.proofs.Common.{◌≡◌, ℕ, ◌+◌, ◌^◌, ◌<◌, ◌≤◌, Bool, true, false, cond, ◌&&◌, eqb, ltb, leb, List, [], ◌∷◌, ◌++◌, length, get_or, take, drop, Some, None, codes, Option, sym, refl, ap, ◌∙◌, arith}
-use Rattle.std.specs.List.{flat_map, AllByRecursion as All}
+use Rattle.std.specs.List.{flat_map, AllByRecursion}
 use Rattle.std.proofs.lemmas.List.{drop_more, drop-drop, take-append-drop}
 use Rattle.std.proofs.lemmas.Bool.{and_parts, and_from, ltb-true, leb-true, eqb-true, lt-ltb, eq-eqb}
 use Rattle.hex_text.specs.Digits.{hex_digits, hex_number, hex_number_in}
@@ -17,7 +17,7 @@ before_some None p bs e = absurd (let z : ◌≡◌ {A = ℕ} 0 1 = cc in omega 
 before_some (Some b) None bs e = absurd (let z : ◌≡◌ {A = ℕ} 0 1 = cc in omega arith)
 before_some (Some b) (Some cs) bs e = (b, cs, refl, refl, cc)
 
-bytes_read : (ds bs : List ℕ) → bytes_of ds ≡ Some bs → (ds ≡ flat_map (hex_digits 2) bs) × All (λ b. b < 256) bs
+bytes_read : (ds bs : List ℕ) → bytes_of ds ≡ Some bs → (ds ≡ flat_map (hex_digits 2) bs) × AllByRecursion (λ b. b < 256) bs
 bytes_read [] bs e = let none : bs ≡ [] = cc in rw none (refl, tt)
 bytes_read (h ∷ []) bs e = absurd (let z : ◌≡◌ {A = ℕ} 0 1 = cc in omega arith)
 bytes_read (h ∷ l ∷ ds) bs e =
@@ -28,7 +28,7 @@ bytes_read (h ∷ l ∷ ds) bs e =
     let more = bytes_read ds cs parts.3 in
     rw parts.4 (λ i. first.1 i ++ more.0 i, (first.0, more.1))
 
-bytes_written : (bs : List ℕ) → All (λ b. b < 256) bs → bytes_of (flat_map (hex_digits 2) bs) ≡ Some bs
+bytes_written : (bs : List ℕ) → AllByRecursion (λ b. b < 256) bs → bytes_of (flat_map (hex_digits 2) bs) ≡ Some bs
 bytes_written [] all = refl
 bytes_written (b ∷ bs) all =
     let first : hex_number (hex_digits 2 b) ≡ Some b = (digits-undo 2 (hex_digits 2 b) (hex_number (hex_digits 2 b)) refl).written b all.0 refl in

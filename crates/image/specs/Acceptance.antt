@@ -1,13 +1,13 @@
 -- An image is accepted just where it is the text of data lines that fall on memory.
 use Rattle.std.specs.Prelude.{◌≡◌, ℕ, ◌^◌, ◌<◌, Bool, true, List, length}
-use Rattle.std.specs.List.{AllByRecursion as All}
+use Rattle.std.specs.List.{AllByRecursion}
 use Rattle.image.specs.Checking.{Answer, accepted, on_memory, image_data}
 use Rattle.image.specs.Format.{Data, Sound, image_text}
 
 -- data lines that an image may have: sound ones whose bytes fall on memory, no more than eight digits count
 pub record Loadable (memory : ℕ → Bool) (ds : List Data) : Type 0 where
-  pub sound : All Sound ds
-  pub placed : All (λ d. on_memory memory d.address d.bytes ≡ true) ds
+  pub sound : AllByRecursion Sound ds
+  pub placed : AllByRecursion (λ d. on_memory memory d.address d.bytes ≡ true) ds
   pub few : length ds < 2 ^ 32
 
 -- a is the answer to an image

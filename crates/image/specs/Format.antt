@@ -1,6 +1,6 @@
 -- The text of an image: data lines, then an end line that counts them, each ended by a line feed.
 use Rattle.std.specs.Prelude.{ℕ, ◌^◌, ◌<◌, ◌≤◌, List, ◌++◌, length, codes}
-use Rattle.std.specs.List.{flat_map, AllByRecursion as All}
+use Rattle.std.specs.List.{flat_map, AllByRecursion}
 use Rattle.hex_text.specs.Digits.{hex_digits}
 
 -- what a data line holds: bytes for memory, from an address on
@@ -13,7 +13,7 @@ pub record Sound (d : Data) : Type 0 where
   pub address : d.address < 2 ^ 32
   pub some : 1 ≤ length d.bytes
   pub few : length d.bytes ≤ 32
-  pub bytes : All (λ b. b < 256) d.bytes
+  pub bytes : AllByRecursion (λ b. b < 256) d.bytes
 
 -- the text of a data line: M, the address in eight digits, and each byte in two
 abbrev pub data_text : Data → List ℕ

@@ -1,6 +1,6 @@
 -- Loads, and with them whole scripts, follow the book. Assumes nothing.
 use Rattle.std.proofs.Common.{◌≡◌, ℕ, zero, suc, ◌+◌, ◌*◌, ◌%◌, ◌^◌, ◌<◌, Bool, true, cond, ◌&&◌, ltb, List, [], ◌∷◌, length, Ok, Err, sym, refl, ap, ◌∙◌, subst, arith}
-use Rattle.std.specs.List.{AllByRecursion as All}
+use Rattle.std.specs.List.{AllByRecursion}
 use Rattle.std.proofs.lemmas.Bool.{and_parts, eq-eqb}
 use Rattle.bus.specs.Rules.{Rules, Laws, Steady, readable, fault}
 use Rattle.bus.specs.declared.fault.Cause.TheVariants.{Misaligned}
@@ -20,7 +20,7 @@ use Rattle.script.specs.Request.{Request, load, lines, look, show, step, run, lo
 use Rattle.script.proofs.Booking.{Follows, on_memory_lem}
 use Rattle.script.proofs.StepBook.{stepping, running}
 
-below : (bs : List ℕ) → All (λ b. b < 256) bs → Below bs
+below : (bs : List ℕ) → AllByRecursion (λ b. b < 256) bs → Below bs
 unfolding Below
 below [] all = tt
 below (b ∷ bs) all = (all.0, below bs all.1)
@@ -48,8 +48,8 @@ read_steady Memory h v st = refl
 read_steady Device h v st = absurd st
 
 module _ {M : Type 0} (r : Rules M) (laws : Laws r) (m0 : M) where
-  put_lines_lem : (ds : List Data) (m : M) (book : Book) (memory : ℕ → Bool) → ((a : ℕ) → memory a ≡ true → r.kind m0 a ≡ Memory) → All Sound ds →
-      All (λ d. on_memory memory d.address d.bytes ≡ true) ds → Follows r laws m0 m book → Follows r laws m0 (put_data r m ds) (put_lines book ds)
+  put_lines_lem : (ds : List Data) (m : M) (book : Book) (memory : ℕ → Bool) → ((a : ℕ) → memory a ≡ true → r.kind m0 a ≡ Memory) → AllByRecursion Sound ds →
+      AllByRecursion (λ d. on_memory memory d.address d.bytes ≡ true) ds → Follows r laws m0 m book → Follows r laws m0 (put_data r m ds) (put_lines book ds)
   put_lines_lem [] m book memory is sound placed f = f
   put_lines_lem (d ∷ ds) m book memory is sound placed f =
       put_lines_lem ds _ _ memory is sound.1 placed.1

@@ -1,6 +1,6 @@
 -- What is turned down touches nothing. Assumes nothing.
 use Rattle.std.proofs.Common.{◌≡◌, ℕ, zero, suc, Bool, true, false, cond, List, [], ◌∷◌, Ok, Err, refl}
-use Rattle.std.specs.List.{AllByRecursion as All}
+use Rattle.std.specs.List.{AllByRecursion}
 use Rattle.std.proofs.ByRecursion.{All-append}
 use Rattle.bus.specs.Rules.{Rules}
 use Rattle.cpu.specs.declared.answer.Answer.{Answer}
@@ -43,18 +43,18 @@ module _ {M : Type 0} (r : Rules M) where
   StopStays : Made M → Type 0
   StopStays x = IsStop x.answer → x.after ≡ x.before
 
-  unless : (a : Answer) (xs : List (Made M)) → All StopStays xs → All StopStays (unless_stopped a xs)
+  unless : (a : Answer) (xs : List (Made M)) → AllByRecursion StopStays xs → AllByRecursion StopStays (unless_stopped a xs)
   unless (Done w) xs all = all
   unless (Taken e) xs all = all
   unless (Stopped why pc) xs all = tt
 
-  running : (n : ℕ) (s : Machine M) → All StopStays (run_steps r n s)
+  running : (n : ℕ) (s : Machine M) → AllByRecursion StopStays (run_steps r n s)
   unfolding run_steps StopStays
   running zero s = tt
   running (suc n) s =
       (stopping (board.stepped r s).0 s _ (step_counts r s).stays, unless (board.stepped r s).0 _ (running n (board.stepped r s).1))
 
-  calling : (s : Machine M) (q : Request) → All StopStays (steps r s q)
+  calling : (s : Machine M) (q : Request) → AllByRecursion StopStays (steps r s q)
   unfolding StopStays
   calling s (load i) = tt
   calling s (lines w) = tt
@@ -63,7 +63,7 @@ module _ {M : Type 0} (r : Rules M) where
   calling s step = (stopping (board.stepped r s).0 s _ (step_counts r s).stays, tt)
   calling s (run n) = running n s
 
-  playing : (qs : List Request) (s : Machine M) → All StopStays (all_steps r s qs)
+  playing : (qs : List Request) (s : Machine M) → AllByRecursion StopStays (all_steps r s qs)
   playing [] s = tt
   playing (q ∷ qs) s = All-append StopStays (steps r s q) (all_steps r (after r s q) qs) (calling s q) (playing qs (after r s q))
 

@@ -1,6 +1,6 @@
 -- A return brings back what its exception saved, if no step between wrote it. Assumes nothing.
 use Rattle.std.proofs.Common.{◌≡◌, ℕ, ◌*◌, ◌/◌, ◌%◌, ◌<◌, Bool, true, false, cond, List, [], ◌∷◌, ◌++◌, length, get_or, Some, Ok, sym, refl, ap, ◌∙◌, subst, arith, get_or-set_same}
-use Rattle.std.specs.List.{AllByRecursion as All}
+use Rattle.std.specs.List.{AllByRecursion}
 use Rattle.isa.specs.Decode.{decoded}
 use Rattle.isa.specs.Fields.{register}
 use Rattle.isa.specs.declared.instruction.Instruction.{Instruction}
@@ -91,7 +91,7 @@ module _ {M : Type 0} (r : Rules M) where
 
   -- over the steps between
   carried : (e : Exception) (a : ℕ) (v : Bool) (s : Machine M) (middle back : List (Made M)) (y : Made M) → Saved e a v s.cpu → Linked s (middle ++ (y ∷ back)) →
-      All (λ z. LeavesSaved e z.answer) middle → Saved e a v y.before.cpu
+      AllByRecursion (λ z. LeavesSaved e z.answer) middle → Saved e a v y.before.cpu
   carried e a v s [] back y h l all = saved_same e a v s y.before l.0 h
   carried e a v s (z ∷ zs) back y h l all =
       carried e a v z.after zs back y (saved_step e a v z l.1 l.2 all.0 (saved_same e a v s z.before l.0 h)) l.3 all.1
@@ -136,7 +136,7 @@ module _ {M : Type 0} (r : Rules M) where
 
   -- an exception, the steps between, and its return
   resumes : (s : Machine M) (middle back : List (Made M)) (x y : Made M) (e : Exception) → Good s.cpu → Linked s (x ∷ (middle ++ (y ∷ back))) → x.answer ≡ Taken e →
-      y.answer ≡ Done (return_word e) → All (λ z. LeavesSaved e z.answer) middle → Resumes x y
+      y.answer ≡ Done (return_word e) → AllByRecursion (λ z. LeavesSaved e z.answer) middle → Resumes x y
   resumes s middle back x y e g l took back-word all =
       let good : Good x.before.cpu = same_good s x.before l.0 g in
       let left : x.after ≡ departed r (noted r x.before) e = l.2 ∙ taken_by r x.before e (sym l.1 ∙ took) in
@@ -153,7 +153,7 @@ module _ {M : Type 0} (r : Rules M) where
 
   -- the same wherever the exception stands
   pub resumes_in : (s : Machine M) (front middle back : List (Made M)) (x y : Made M) (e : Exception) → Good s.cpu → Linked s (front ++ (x ∷ (middle ++ (y ∷ back)))) →
-      x.answer ≡ Taken e → y.answer ≡ Done (return_word e) → All (λ z. LeavesSaved e z.answer) middle → Resumes x y
+      x.answer ≡ Taken e → y.answer ≡ Done (return_word e) → AllByRecursion (λ z. LeavesSaved e z.answer) middle → Resumes x y
   resumes_in s [] middle back x y e g l took word all = resumes s middle back x y e g l took word all
   resumes_in s (z ∷ zs) middle back x y e g l took word all =
       resumes_in z.after zs middle back x y e (after_good z l.2 (same_good s z.before l.0 g)) l.3 took word all

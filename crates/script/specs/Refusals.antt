@@ -1,6 +1,6 @@
 -- What a script's calls turn down, and that it touches nothing.
 use Rattle.std.specs.Prelude.{◌≡◌, List, ◌∷◌, ◌++◌, Ok, Err}
-use Rattle.std.specs.List.{AllByRecursion as All}
+use Rattle.std.specs.List.{AllByRecursion}
 use Rattle.bus.specs.Rules.{Rules}
 use Rattle.cpu.specs.declared.answer.Answer.{Answer}
 use Rattle.cpu.specs.declared.answer.Answer.TheVariants.{Done, Taken, Stopped}
@@ -33,4 +33,4 @@ pub record RefusalsTouchNothing {M : Type 0} (r : Rules M) (s : Machine M) (qs :
   -- after a call that is turned down, wherever it stands, the machine is what it was before
   pub calls : (front back : List Request) (q : Request) → qs ≡ front ++ (q ∷ back) → IsRefusal (tells r (finally r s front) q) → after r (finally r s front) q ≡ finally r s front
   -- and so after a step that stops, by itself or as the last of a run
-  pub steps : All (λ x. IsStop x.answer → x.after ≡ x.before) (all_steps r s qs)
+  pub steps : AllByRecursion (λ x. IsStop x.answer → x.after ≡ x.before) (all_steps r s qs)

@@ -1,6 +1,6 @@
 -- Exceptions and their returns, over the steps of a script.
 use Rattle.std.specs.Prelude.{◌≡◌, ℕ, Bool, false, cond, List, ◌∷◌, ◌++◌}
-use Rattle.std.specs.List.{AllByRecursion as All}
+use Rattle.std.specs.List.{AllByRecursion}
 use Rattle.cpu.specs.Entry.{saved_in}
 use Rattle.cpu.specs.Exception.{is_breakpoint}
 use Rattle.cpu.specs.declared.answer.Answer.{Answer}
@@ -30,4 +30,4 @@ pub record Resumes {M : Type 0} (x y : Made M) : Type 0 where
 abbrev pub ReturnsResume : {M : Type 0} → List (Made M) → Type 0
 ReturnsResume {M} steps =
     (front middle back : List (Made M)) (x y : Made M) (e : Exception) → steps ≡ front ++ (x ∷ (middle ++ (y ∷ back))) →
-    x.answer ≡ Taken e → y.answer ≡ Done (return_word e) → All (λ z. LeavesSaved e z.answer) middle → Resumes x y
+    x.answer ≡ Taken e → y.answer ≡ Done (return_word e) → AllByRecursion (λ z. LeavesSaved e z.answer) middle → Resumes x y
