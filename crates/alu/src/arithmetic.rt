@@ -1,16 +1,10 @@
 // Operations on two words, and on a word and an immediate.
 ghost use Rattle.std.specs.Prelude.{◌≡◌, ◌<◌, Some, None};
-ghost use Rattle.alu.specs.Arithmetic.{computed, difference, divided, operand, with_immediate, flag, quotient};
+ghost use Rattle.alu.specs.Arithmetic.{computed, difference, divided, operand, with_immediate, quotient};
 
 use crate::compare::{greater_equal_signed, greater_signed};
 use crate::extend::sign_extend_half;
 use isa::{BinaryOp, DivideOp, HighOp, ImmediateOp};
-
-fn as_word(b: bool) -> u32
-    ensures { result ≡ flag b }
-{
-    if b { 1 } else { 0 }
-}
 
 pub fn compute(op: BinaryOp, x: u32, y: u32) -> u32
     ensures value { result ≡ computed op x y }
@@ -23,12 +17,12 @@ pub fn compute(op: BinaryOp, x: u32, y: u32) -> u32
         BinaryOp::Xnor => !(x ^ y),
         BinaryOp::Add => x.wrapping_add(y),
         BinaryOp::Or => x | y,
-        BinaryOp::Cmpe => as_word(x == y),
-        BinaryOp::Cmpg => as_word(greater_signed(x, y)),
-        BinaryOp::Cmpge => as_word(greater_equal_signed(x, y)),
-        BinaryOp::Cmpgeu => as_word(x >= y),
-        BinaryOp::Cmpgu => as_word(x > y),
-        BinaryOp::Cmpne => as_word(x != y),
+        BinaryOp::Cmpe => u32::from(x == y),
+        BinaryOp::Cmpg => u32::from(greater_signed(x, y)),
+        BinaryOp::Cmpge => u32::from(greater_equal_signed(x, y)),
+        BinaryOp::Cmpgeu => u32::from(x >= y),
+        BinaryOp::Cmpgu => u32::from(x > y),
+        BinaryOp::Cmpne => u32::from(x != y),
     }
 }
 
@@ -42,12 +36,9 @@ pub fn subtract(x: u32, y: u32) -> u32
 pub fn divide(op: DivideOp, x: u32, y: u32) -> Option<u32>
     ensures answer { result ≡ quotient op x y }
 {
-    if y == 0 {
-        return None;
-    }
     match op {
-        DivideOp::Divu => Some(x / y),
-        DivideOp::Modu => Some(x % y),
+        DivideOp::Divu => x.checked_div(y),
+        DivideOp::Modu => x.checked_rem(y),
     }
 }
 
@@ -62,7 +53,7 @@ fn extend_operand(op: BinaryOp, value: u16) -> u32
         | BinaryOp::Xnor
         | BinaryOp::Or
         | BinaryOp::Cmpgeu
-        | BinaryOp::Cmpgu => value as u32,
+        | BinaryOp::Cmpgu => u32::from(value),
         BinaryOp::Mul
         | BinaryOp::Add
         | BinaryOp::Cmpe
@@ -77,7 +68,7 @@ pub fn compute_immediate(op: ImmediateOp, x: u32, value: u16) -> u32
 {
     match op {
         ImmediateOp::Binary(op) => compute(op, x, extend_operand(op, value)),
-        ImmediateOp::High(HighOp::Andhi) => x & (value as u32 * 0x1_0000),
-        ImmediateOp::High(HighOp::Orhi) => x | (value as u32 * 0x1_0000),
+        ImmediateOp::High(HighOp::Andhi) => x & (u32::from(value) * 0x1_0000),
+        ImmediateOp::High(HighOp::Orhi) => x | (u32::from(value) * 0x1_0000),
     }
 }
