@@ -6,18 +6,22 @@ use Rattle.isa.specs.declared.instruction.Instruction.{Instruction}
 use Rattle.isa.specs.declared.operation.Operation.{Operation}
 use Rattle.isa.specs.declared.operation.RaiseOp.{RaiseOp}
 use Rattle.isa.specs.declared.register.Register.{Register}
+use Rattle.isa.specs.declared.csr_number.CsrNumber.{CsrNumber}
 use Rattle.isa.specs.Words.{field, register_a, register_b, register_c, csr_a, low_half}
 use Rattle.isa.specs.Fields
 use Rattle.isa.specs.Decode.{instruction_of, formed}
 use Rattle.isa.specs.Unused.{clear, unused}
 use Rattle.isa.specs.Encode.{Laid, Packed}
 use Rattle.isa.specs.Operations.{named_by}
-use Rattle.isa.proofs.Paths.{register_path, csr_path, amount_path, offset_path}
 use Rattle.isa.proofs.Unused.{Zeros, zeros, cleared}
+use Rattle.isa.proofs.Values.{one_value}
 
 module _ (w : ℕ) where
   same : (f : Register) (n : ℕ) → n % 32 ≡ f.number → Fields.register n ≡ f
-  same f n e = register_path (Fields.register n) f e
+  same f n e = one_value (λ k h. record { number = k; within = h }) e (Fields.register n).within f.within
+
+  same_csr : (f : CsrNumber) → field 25 21 w % 32 ≡ f.number → csr_a w ≡ f
+  same_csr f e = one_value (λ k h. record { number = k; within = h }) e (csr_a w).within f.within
 
   -- the registers and the low half of a word that is packed from them
   halves : (a b : Register) (v : ℕ) → Packed a.number b.number v (w % 2 ^ 26) → (register_a w ≡ a) × (register_b w ≡ b) × (low_half w ≡ v)
@@ -33,7 +37,7 @@ module _ (w : ℕ) where
   back (Instruction.Immediate op from value to) h = let p = halves from to value h in cc
   back (Instruction.ShiftImmediate op from amount to) h =
       let p = halves from to amount.places h in
-      let n = amount_path (Fields.amount (field 4 0 w)) amount (omega arith) in
+      let n : Fields.amount (field 4 0 w) ≡ amount = one_value (λ k h. record { places = k; within = h }) (omega arith) (Fields.amount (field 4 0 w)).within amount.within in
       let u = free (Operation.ShiftImmediate op) (omega arith) in
       cc
   back (Instruction.Load op base offset to) h = let p = halves base to offset h in cc
@@ -54,15 +58,15 @@ module _ (w : ℕ) where
       let u = free (Operation.Jump op) (omega arith) in
       cc
   back (Instruction.JumpOffset op offset) h =
-      let n = offset_path (Fields.offset (field 25 0 w)) offset (omega arith) in
+      let n : Fields.offset (field 25 0 w) ≡ offset = one_value (λ k h. record { bits = k; within = h }) (omega arith) (Fields.offset (field 25 0 w)).within offset.within in
       cc
   back (Instruction.ReadCsr csr to) h =
-      let a = csr_path (csr_a w) csr (omega arith) in
+      let a = same_csr csr (omega arith) in
       let c = same to (field 15 11 w) (omega arith) in
       let u = free Operation.ReadCsr (omega arith) in
       cc
   back (Instruction.WriteCsr csr from) h =
-      let a = csr_path (csr_a w) csr (omega arith) in
+      let a = same_csr csr (omega arith) in
       let b = same from (field 20 16 w) (omega arith) in
       let u = free Operation.WriteCsr (omega arith) in
       cc

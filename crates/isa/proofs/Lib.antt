@@ -2,10 +2,9 @@ pub mod Answered
 pub mod BitRows
 pub mod Every
 pub mod Formed
-pub mod Masks
 pub mod Packed
-pub mod Paths
 pub mod ReservedWords
 pub mod Table
 pub mod Unused
+pub mod Values
 pub mod Whole

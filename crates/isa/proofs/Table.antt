@@ -22,7 +22,7 @@ use Rattle.isa.specs.Opcodes.{opcodes, named}
 use Rattle.isa.proofs.Every.{at}
 
 -- the codes, as the enums' numbers give them
-abbrev binary : BinaryOp → ℕ
+abbrev pub binary : BinaryOp → ℕ
 binary =
     elim [
       | Nor ↦ 0x01
@@ -40,10 +40,10 @@ binary =
       | Cmpne ↦ 0x1F
     ]
 
-abbrev shift : ShiftOp → ℕ
+abbrev pub shift : ShiftOp → ℕ
 shift = elim [ Sru ↦ 0x00 | Sr ↦ 0x05 | Sl ↦ 0x0F ]
 
-abbrev jump : JumpOp → ℕ
+abbrev pub jump : JumpOp → ℕ
 jump = elim [ B ↦ 0x30 | Call ↦ 0x36 ]
 
 abbrev code : Operation → ℕ
@@ -63,6 +63,31 @@ code (Operation.JumpOffset op) = jump op + 8
 code Operation.ReadCsr = 0x24
 code Operation.WriteCsr = 0x34
 code Operation.Raise = 0x2B
+
+-- the second forms lie above the first ones
+pub above_binary : (op : BinaryOp) → named (binary op + 0x20) ≡ Some (Operation.Register (RegisterOp.Binary op))
+above_binary =
+    elim [
+      | Nor ↦ refl
+      | Mul ↦ refl
+      | Xor ↦ refl
+      | And ↦ refl
+      | Xnor ↦ refl
+      | Add ↦ refl
+      | Or ↦ refl
+      | Cmpe ↦ refl
+      | Cmpg ↦ refl
+      | Cmpge ↦ refl
+      | Cmpgeu ↦ refl
+      | Cmpgu ↦ refl
+      | Cmpne ↦ refl
+    ]
+
+pub above_shift : (op : ShiftOp) → named (shift op + 0x20) ≡ Some (Operation.Register (RegisterOp.Shift op))
+above_shift = elim [ Sru ↦ refl | Sr ↦ refl | Sl ↦ refl ]
+
+pub above_jump : (op : JumpOp) → named (jump op + 8) ≡ Some (Operation.JumpOffset op)
+above_jump = elim [ B ↦ refl | Call ↦ refl ]
 
 abbrev empty : ℕ → Bool
 empty k = eqb k 0x27 || eqb k 0x2A || eqb k 0x33 || eqb k 0x35

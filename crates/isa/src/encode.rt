@@ -1,11 +1,13 @@
 // The word of an instruction.
-ghost use Rattle.std.specs.Prelude.{◌≡◌, ℕ, ◌^◌, ◌<◌, Some};
+ghost use Rattle.std.specs.Prelude.{◌≡◌, ℕ, ◌*◌, ◌^◌, ◌<◌, Some};
 ghost use Rattle.isa.specs.Decode.{decoded};
 ghost use Rattle.isa.specs.Encode.{Packed, Laid};
 ghost use Rattle.isa.specs.Operations.{named_by};
 
 use crate::instruction::Instruction;
 use crate::operation::*;
+use crate::register::Register;
+use crate::word_fields::{A, B, C};
 
 /// Fields A and B, and the low 16 bits, of a word whose opcode is 0.
 fn pack(a: u8, b: u8, low: u16) -> u32
@@ -13,7 +15,14 @@ fn pack(a: u8, b: u8, low: u16) -> u32
     requires b_within { b < 32 }
     ensures value { Packed a b low result }
 {
-    (a as u32) << 21 | (b as u32) << 16 | low as u32
+    u32::from(a) << A | u32::from(b) << B | u32::from(low)
+}
+
+/// The low half of a word with a register in field C and no other bit.
+fn in_field_c(register: Register) -> u16
+    ensures value { result ≡ register.number * 2 ^ 11 }
+{
+    u16::from(register.number) << C
 }
 
 impl Instruction {
@@ -22,7 +31,7 @@ impl Instruction {
         ensures back { decoded result ≡ Some self }
         ensures only { (v : ℕ) → v < 2 ^ 32 → decoded v ≡ Some self → v ≡ result }
     {
-        (self.operation().opcode() as u32) << 26 | self.below_opcode()
+        u32::from(self.operation().opcode()) << 26 | self.below_opcode()
     }
 
     /// What the opcode of an instruction names.
@@ -61,7 +70,7 @@ impl Instruction {
                 amount,
                 to,
                 ..
-            } => pack(from.number, to.number, amount.places as u16),
+            } => pack(from.number, to.number, u16::from(amount.places)),
             Instruction::Load {
                 base,
                 offset,
@@ -85,11 +94,11 @@ impl Instruction {
                 right,
                 to,
                 ..
-            } => pack(left.number, right.number, (to.number as u16) << 11),
-            Instruction::Extend { from, to, .. } => pack(from.number, 0, (to.number as u16) << 11),
+            } => pack(left.number, right.number, in_field_c(to)),
+            Instruction::Extend { from, to, .. } => pack(from.number, 0, in_field_c(to)),
             Instruction::Jump { target, .. } => pack(target.number, 0, 0),
             Instruction::JumpOffset { offset, .. } => offset.bits,
-            Instruction::ReadCsr { csr, to } => pack(csr.number, 0, (to.number as u16) << 11),
+            Instruction::ReadCsr { csr, to } => pack(csr.number, 0, in_field_c(to)),
             Instruction::WriteCsr { csr, from } => pack(csr.number, from.number, 0),
             Instruction::Raise { op } => pack(0, 0, op as u16),
         }

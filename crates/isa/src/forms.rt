@@ -13,9 +13,9 @@ fn immediate(op: ImmediateOp, word: u32) -> Instruction
 {
     Instruction::Immediate {
         op,
-        from: register_a(word),
+        from: register::<A>(word),
         value: low_half(word),
-        to: register_b(word),
+        to: register::<B>(word),
     }
 }
 
@@ -25,9 +25,9 @@ fn shift_immediate(op: ShiftOp, word: u32) -> Instruction
     let amount = ShiftAmount::from_low_bits(bit_field(word, 4, 0));
     Instruction::ShiftImmediate {
         op,
-        from: register_a(word),
+        from: register::<A>(word),
         amount,
-        to: register_b(word),
+        to: register::<B>(word),
     }
 }
 
@@ -36,9 +36,9 @@ fn load(op: LoadOp, word: u32) -> Instruction
 {
     Instruction::Load {
         op,
-        base: register_a(word),
+        base: register::<A>(word),
         offset: low_half(word),
-        to: register_b(word),
+        to: register::<B>(word),
     }
 }
 
@@ -47,9 +47,9 @@ fn store(op: StoreOp, word: u32) -> Instruction
 {
     Instruction::Store {
         op,
-        base: register_a(word),
+        base: register::<A>(word),
         offset: low_half(word),
-        from: register_b(word),
+        from: register::<B>(word),
     }
 }
 
@@ -58,8 +58,8 @@ fn branch(op: BranchOp, word: u32) -> Instruction
 {
     Instruction::Branch {
         op,
-        left: register_a(word),
-        right: register_b(word),
+        left: register::<A>(word),
+        right: register::<B>(word),
         offset: low_half(word),
     }
 }
@@ -69,9 +69,9 @@ fn registers(op: RegisterOp, word: u32) -> Instruction
 {
     Instruction::Register {
         op,
-        left: register_a(word),
-        right: register_b(word),
-        to: register_c(word),
+        left: register::<A>(word),
+        right: register::<B>(word),
+        to: register::<C>(word),
     }
 }
 
@@ -97,9 +97,9 @@ fn raise(code: u32) -> Option<Instruction>
 pub(crate) fn form(op: Operation, word: u32) -> Option<Instruction>
     ensures value { result ≡ formed op word }
 {
-    let a = register_a(word);
-    let b = register_b(word);
-    let c = register_c(word);
+    let a = register::<A>(word);
+    let b = register::<B>(word);
+    let c = register::<C>(word);
     let csr = csr_a(word);
     let instruction = match op {
         Operation::Immediate(op) => immediate(op, word),

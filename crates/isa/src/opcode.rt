@@ -1,42 +1,9 @@
 // The opcode of an operation, and the operation that an opcode names.
-ghost use Rattle.std.specs.Prelude.{◌≡◌, ℕ, ◌+◌, ◌<◌, Some};
+ghost use Rattle.std.specs.Prelude.{◌≡◌, ℕ, ◌<◌, Some};
 ghost use Rattle.isa.specs.Opcodes.{named};
 
 use crate::opcode_table::OPERATIONS;
 use crate::operation::*;
-
-impl BinaryOp {
-    /// The opcode with an immediate; 0x20 above it stands the one with three registers.
-    fn opcode(self) -> u8
-        ensures within { result < 32 }
-        ensures immediate { named result ≡ Some (Operation.Immediate (ImmediateOp.Binary self)) }
-        ensures registers { named (result + 32) ≡ Some (Operation.Register (RegisterOp.Binary self)) }
-    {
-        self as u8
-    }
-}
-
-impl ShiftOp {
-    /// The opcode with an immediate; 0x20 above it stands the one with three registers.
-    fn opcode(self) -> u8
-        ensures within { result < 32 }
-        ensures immediate { named result ≡ Some (Operation.ShiftImmediate self) }
-        ensures registers { named (result + 32) ≡ Some (Operation.Register (RegisterOp.Shift self)) }
-    {
-        self as u8
-    }
-}
-
-impl JumpOp {
-    /// The opcode with a register; 8 above it stands the one with an offset.
-    fn opcode(self) -> u8
-        ensures within { result < 56 }
-        ensures register { named result ≡ Some (Operation.Jump self) }
-        ensures offset { named (result + 8) ≡ Some (Operation.JumpOffset self) }
-    {
-        self as u8
-    }
-}
 
 impl ImmediateOp {
     fn opcode(self) -> u8
@@ -44,20 +11,21 @@ impl ImmediateOp {
         ensures within { result < 64 }
     {
         match self {
-            ImmediateOp::Binary(op) => op.opcode(),
+            ImmediateOp::Binary(op) => op as u8,
             ImmediateOp::High(op) => op as u8,
         }
     }
 }
 
 impl RegisterOp {
+    /// Where an operation has a form with an immediate too, its opcode lies 0x20 above that one.
     fn opcode(self) -> u8
         ensures value { named result ≡ Some (Operation.Register self) }
         ensures within { result < 64 }
     {
         match self {
-            RegisterOp::Binary(op) => op.opcode() + 0x20,
-            RegisterOp::Shift(op) => op.opcode() + 0x20,
+            RegisterOp::Binary(op) => op as u8 + 0x20,
+            RegisterOp::Shift(op) => op as u8 + 0x20,
             RegisterOp::Sub => 0x32,
             RegisterOp::Divide(op) => op as u8,
         }
@@ -81,14 +49,14 @@ impl Operation {
     {
         match self {
             Operation::Immediate(op) => op.opcode(),
-            Operation::ShiftImmediate(op) => op.opcode(),
+            Operation::ShiftImmediate(op) => op as u8,
             Operation::Load(op) => op as u8,
             Operation::Store(op) => op as u8,
             Operation::Branch(op) => op as u8,
             Operation::Register(op) => op.opcode(),
             Operation::Extend(op) => op as u8,
-            Operation::Jump(op) => op.opcode(),
-            Operation::JumpOffset(op) => op.opcode() + 8,
+            Operation::Jump(op) => op as u8,
+            Operation::JumpOffset(op) => op as u8 + 8,
             Operation::ReadCsr => 0x24,
             Operation::WriteCsr => 0x34,
             Operation::Raise => 0x2B,
@@ -99,10 +67,6 @@ impl Operation {
     pub fn from_opcode(opcode: u8) -> Option<Operation>
         ensures value { result ≡ named opcode }
     {
-        if opcode < 64 {
-            OPERATIONS[opcode as usize]
-        } else {
-            None
-        }
+        *OPERATIONS.get(usize::from(opcode))?
     }
 }

@@ -13,6 +13,6 @@ impl Register {
         ensures value { result ≡ self.number }
         ensures within { result < 32 }
     {
-        self.number as usize
+        usize::from(self.number)
     }
 }

@@ -1,8 +1,0 @@
--- The mask takes a remainder, and the value is the one with that number.
-use Rattle.std.proofs.Common.{rules}
-use Rattle.isa.proofs.Masks.{low_5}
-use Rattle.isa.proofs.Paths.{csr_path}
-use Rattle.isa.proofs.csr_number.CsrNumber.from_low_bits.Goals as goal
-
-pub returns : goal.returns
-returns c = search (rules, csr_path, low_5)
