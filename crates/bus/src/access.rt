@@ -1,58 +1,32 @@
-// The size of an access, and whether an access is let through: the lowest cause is told.
-ghost use Rattle.std.specs.Prelude.{◌≡◌, ◌%◌, ◌==◌};
-ghost use Rattle.bus.specs.Bytes.{width};
+// Whether an access is let through: the lowest cause is told.
+ghost use Rattle.std.specs.Prelude.{◌≡◌};
 ghost use Rattle.bus.specs.Rules.{if_aligned, readable, writable};
 
 use crate::fault::{Cause, Fault, Home};
 use crate::kind::Kind;
 use crate::size::Size;
 
-pub(crate) fn aligned(size: Size, address: u32) -> bool
-    ensures { result ≡ (address % width size == 0) }
-{
-    match size {
-        Size::Byte => true,
-        Size::Half => address % 2 == 0,
-        Size::Word => address % 4 == 0,
+impl Home {
+    pub(crate) fn allow_read(self, size: Size, kind: Kind) -> Result<(), Fault>
+        ensures { result ≡ if_aligned size self.address self (readable kind self tt) }
+    {
+        if !size.is_aligned(self.address) {
+            return Err(self.fault(Cause::Misaligned));
+        }
+        if kind == Kind::Absent {
+            return Err(self.fault(Cause::Unmapped));
+        }
+        Ok(())
     }
-}
 
-pub(crate) fn allow_read(size: Size, address: u32, kind: Kind, home: Home) -> Result<(), Fault>
-    ensures { result ≡ if_aligned size address home (readable kind home tt) }
-{
-    if !aligned(size, address) {
-        return Err(Fault {
-            cause: Cause::Misaligned,
-            home,
-        });
-    }
-    match kind {
-        Kind::Absent => Err(Fault {
-            cause: Cause::Unmapped,
-            home,
-        }),
-        Kind::Rom | Kind::Memory | Kind::Device => Ok(()),
-    }
-}
-
-pub(crate) fn allow_write(size: Size, address: u32, kind: Kind, home: Home) -> Result<(), Fault>
-    ensures { result ≡ if_aligned size address home (writable kind home tt) }
-{
-    if !aligned(size, address) {
-        return Err(Fault {
-            cause: Cause::Misaligned,
-            home,
-        });
-    }
-    match kind {
-        Kind::Absent => Err(Fault {
-            cause: Cause::Unmapped,
-            home,
-        }),
-        Kind::Rom => Err(Fault {
-            cause: Cause::ReadOnly,
-            home,
-        }),
-        Kind::Memory | Kind::Device => Ok(()),
+    // What may be read may be written, unless it is ROM.
+    pub(crate) fn allow_write(self, size: Size, kind: Kind) -> Result<(), Fault>
+        ensures { result ≡ if_aligned size self.address self (writable kind self tt) }
+    {
+        self.allow_read(size, kind)?;
+        if kind == Kind::Rom {
+            return Err(self.fault(Cause::ReadOnly));
+        }
+        Ok(())
     }
 }

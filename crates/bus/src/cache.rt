@@ -1,12 +1,10 @@
 // A cache: 256 words of the bus below, written through.
 ghost use Rattle.std.specs.Prelude.{◌≡◌, ℕ, ◌/◌, ◌%◌, true, false, length, set, Some, None};
-ghost use Rattle.bus.specs.Bytes.{width};
-ghost use Rattle.bus.specs.Cache.{set_of, held_word, is_held, is_steady, Right, held_after_read};
+ghost use Rattle.bus.specs.Cache.{set_of, held_word, is_held, Right, held_after_read};
 ghost use Rattle.bus.specs.Rules.{read_answer, write_answer, written};
 ghost use Rattle.bus.specs.declared.line.Line.{Line as Entry};
 ghost use Rattle.std.proofs.Common.{rules, arith};
 
-use crate::access::aligned;
 use crate::fault::Fault;
 use crate::interface::Bus;
 use crate::kind::Kind;
@@ -25,15 +23,6 @@ fn set_of(address: u32) -> usize
     ensures { result ≡ set_of address }
 {
     (address / 4 % 256) as usize
-}
-
-fn steady(kind: Kind) -> bool
-    ensures { result ≡ is_steady kind }
-{
-    match kind {
-        Kind::Rom | Kind::Memory => true,
-        Kind::Absent | Kind::Device => false,
-    }
 }
 
 impl<B: Bus> Cache<B> {
@@ -62,11 +51,9 @@ impl<B> Cache<B> {
     fn find(&self, address: u32) -> Option<u32>
         ensures { result ≡ held_word self.now.lines address }
     {
-        let line = self.lines[set_of(address)];
-        match line {
-            Some(line) if line.tag == address / 4 => Some(line.word),
-            _ => None,
-        }
+        self.lines[set_of(address)]
+            .filter(|line| line.tag == address / 4)
+            .map(|line| line.word)
     }
 
     // Makes a word held in place of its set's former one.
@@ -107,11 +94,11 @@ impl<B: Bus> Bus for Cache<B> {
         ensures answer { result ≡ read_answer B.Bus.rules (B.Bus.means self.old.below) size address }
         ensures held { (b : ℕ) → is_held self.new.lines b ≡ held_after_read B.Bus.rules (B.Bus.means self.old.below) self.old.lines size address b }
     {
-        if aligned(size, address) {
+        if size.is_aligned(address) {
             if let Some(word) = self.find(address) {
                 return Ok(part(word, size, address));
             }
-            if steady(self.below.kind(address)) {
+            if self.below.kind(address).is_steady() {
                 let word = self.below.read(Size::Word, address / 4 * 4)?;
                 self.keep(address, word);
                 return Ok(part(word, size, address));

@@ -1,8 +1,20 @@
 // What lies at an address of a bus: nothing, ROM, memory or a device.
-#[derive(Clone, Copy)]
+ghost use Rattle.std.specs.Prelude.{◌≡◌};
+ghost use Rattle.bus.specs.Cache.{is_steady};
+
+#[derive(Clone, Copy, Debug, PartialEq, Eq)]
 pub enum Kind {
     Absent,
     Rom,
     Memory,
     Device,
+}
+
+impl Kind {
+    // Whether no tick changes what lies there.
+    pub(crate) fn is_steady(self) -> bool
+        ensures { result ≡ is_steady self }
+    {
+        matches!(self, Kind::Rom | Kind::Memory)
+    }
 }

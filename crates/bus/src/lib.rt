@@ -13,6 +13,7 @@ mod line;
 mod number;
 mod port;
 mod ram;
+mod region;
 mod rom;
 mod size;
 mod timer;

@@ -1,21 +1,24 @@
 // The port: eight device bytes, the words data and strobe, and the list of the bytes that it has sent.
 ghost use Rattle.std.specs.Prelude.{◌≡◌, ◌≤◌, [], length, replicate, IfOk, vec_capacity};
-ghost use Rattle.bus.specs.Block.{home_in};
 ghost use Rattle.bus.specs.Port.{Sender, port_rules};
-ghost use Rattle.bus.specs.declared.fault.Layer.TheVariants as layers;
 ghost use Rattle.std.proofs.Common.{rules, arith};
 
-use crate::access::{allow_read, allow_write};
-use crate::block::{number_at, put_number};
-use crate::fault::{Fault, Home, Layer};
+use crate::block::{put_word, word_at};
+use crate::fault::{Fault, Layer};
 use crate::interface::Bus;
 use crate::kind::Kind;
+use crate::region::Region;
 use crate::size::Size;
 use std::alloc::{AllocError, Global};
 
 const DATA: usize = 0;
 
 const STROBE: usize = 4;
+
+const REGION: Region = Region {
+    kind: Kind::Device,
+    layer: Layer::Port,
+};
 
 #[derive(Drop)]
 pub struct Port {
@@ -45,15 +48,6 @@ impl Port {
     {
         self.gone.as_slice()
     }
-
-    fn home(address: u32) -> Home
-        ensures { result ≡ home_in layers.Port address }
-    {
-        Home {
-            address,
-            layer: Layer::Port,
-        }
-    }
 }
 
 impl Bus for Port {
@@ -68,11 +62,7 @@ impl Bus for Port {
     ghost lawful = { first_of (Prim.search rules, Prim.grind (arith, Self.row.coded.inj)) };
 
     fn kind(&self, address: u32) -> Kind {
-        if address < 8 {
-            Kind::Device
-        } else {
-            Kind::Absent
-        }
+        REGION.kind_at(&self.registers, address)
     }
 
     fn lines(&self) -> u32 {
@@ -80,22 +70,19 @@ impl Bus for Port {
     }
 
     fn read(&mut self, size: Size, address: u32) -> Result<u32, Fault> {
-        allow_read(size, address, self.kind(address), Port::home(address))?;
-        Ok(number_at(&self.registers, address as usize, size))
+        REGION.read(&self.registers, size, address)
     }
 
     fn write(&mut self, size: Size, address: u32, value: u32) -> Result<(), Fault> {
-        allow_write(size, address, self.kind(address), Port::home(address))?;
-        put_number(&mut self.registers, address as usize, size, value);
-        Ok(())
+        REGION.write(&mut self.registers, size, address, value)
     }
 
     fn tick(&mut self) {
-        let strobe = number_at(&self.registers, STROBE, Size::Word);
+        let strobe = word_at(&self.registers, STROBE);
         if strobe != 0 && self.gone.len() < self.room {
-            let payload = number_at(&self.registers, DATA, Size::Word) % 256;
+            let payload = word_at(&self.registers, DATA) % 256;
             self.gone.push_reserved(payload as u8);
-            put_number(&mut self.registers, STROBE, Size::Word, 0);
+            put_word(&mut self.registers, STROBE, 0);
         }
     }
 }

@@ -1,15 +1,18 @@
 // A ROM over the caller's bytes.
 ghost use Rattle.std.specs.Prelude.{◌≡◌, ℕ, List};
-ghost use Rattle.bus.specs.Block.{rom_rules, home_in};
-ghost use Rattle.bus.specs.declared.fault.Layer.TheVariants as layers;
+ghost use Rattle.bus.specs.Block.{rom_rules};
 ghost use Rattle.std.proofs.Common.{rules};
 
-use crate::access::{allow_read, allow_write};
-use crate::block::number_at;
-use crate::fault::{Fault, Home, Layer};
+use crate::fault::{Fault, Layer};
 use crate::interface::Bus;
 use crate::kind::Kind;
+use crate::region::Region;
 use crate::size::Size;
+
+const REGION: Region = Region {
+    kind: Kind::Rom,
+    layer: Layer::Rom,
+};
 
 #[derive(Drop)]
 pub struct Rom {
@@ -21,15 +24,6 @@ impl Rom {
         ensures meaning { result.bytes.items ≡ bytes.items }
     {
         Rom { bytes }
-    }
-
-    fn home(address: u32) -> Home
-        ensures { result ≡ home_in layers.Rom address }
-    {
-        Home {
-            address,
-            layer: Layer::Rom,
-        }
     }
 }
 
@@ -45,11 +39,7 @@ impl Bus for Rom {
     ghost lawful = { Prim.search rules };
 
     fn kind(&self, address: u32) -> Kind {
-        if (address as usize) < self.bytes.len() / 4 * 4 {
-            Kind::Rom
-        } else {
-            Kind::Absent
-        }
+        REGION.kind_at(&self.bytes, address)
     }
 
     fn lines(&self) -> u32 {
@@ -57,12 +47,11 @@ impl Bus for Rom {
     }
 
     fn read(&mut self, size: Size, address: u32) -> Result<u32, Fault> {
-        allow_read(size, address, self.kind(address), Rom::home(address))?;
-        Ok(number_at(&self.bytes, address as usize, size))
+        REGION.read(&self.bytes, size, address)
     }
 
-    fn write(&mut self, size: Size, address: u32, _value: u32) -> Result<(), Fault> {
-        allow_write(size, address, self.kind(address), Rom::home(address))
+    fn write(&mut self, size: Size, address: u32, value: u32) -> Result<(), Fault> {
+        REGION.write(&mut self.bytes, size, address, value)
     }
 
     fn tick(&mut self) {}

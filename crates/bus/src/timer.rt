@@ -1,15 +1,13 @@
 // The timer: sixteen device bytes, the words period, count, control and status, and one line.
-ghost use Rattle.std.specs.Prelude.{◌≡◌, ◌+◌, ◌%◌, ◌<◌, ◌≤◌, false, length, replicate};
-ghost use Rattle.bus.specs.Block.{home_in, word_in};
+ghost use Rattle.std.specs.Prelude.{◌≡◌, ◌%◌, ◌<◌, false, length, replicate};
 ghost use Rattle.bus.specs.Timer.{Clock, timer_rules, counted, raises};
-ghost use Rattle.bus.specs.declared.fault.Layer.TheVariants as layers;
 ghost use Rattle.std.proofs.Common.{rules, arith};
 
-use crate::access::{allow_read, allow_write};
-use crate::block::{number_at, put_number};
-use crate::fault::{Fault, Home, Layer};
+use crate::block::{put_word, word_at};
+use crate::fault::{Fault, Layer};
 use crate::interface::Bus;
 use crate::kind::Kind;
+use crate::region::Region;
 use crate::size::Size;
 
 const PERIOD: usize = 0;
@@ -19,6 +17,11 @@ const COUNT: usize = 4;
 const CONTROL: usize = 8;
 
 const STATUS: usize = 12;
+
+const REGION: Region = Region {
+    kind: Kind::Device,
+    layer: Layer::Timer,
+};
 
 #[derive(Drop)]
 pub struct Timer {
@@ -43,40 +46,24 @@ impl Timer {
         }
     }
 
-    fn home(address: u32) -> Home
-        ensures { result ≡ home_in layers.Timer address }
-    {
-        Home {
-            address,
-            layer: Layer::Timer,
-        }
-    }
-
-    fn word(&self, at: usize) -> u32
-        requires { at + 4 ≤ 16 }
-        ensures { result ≡ word_in self.now.registers at }
-    {
-        number_at(&self.registers, at, Size::Word)
-    }
-
     fn count_down(&mut self)
         ensures registers { self.new.registers ≡ counted self.old.registers }
         ensures line { self.new.line ≡ self.old.line }
     {
-        let count = self.word(COUNT);
+        let count = word_at(&self.registers, COUNT);
         if count == 0 {
-            let period = self.word(PERIOD);
-            put_number(&mut self.registers, COUNT, Size::Word, period);
-            put_number(&mut self.registers, STATUS, Size::Word, 1);
+            let period = word_at(&self.registers, PERIOD);
+            put_word(&mut self.registers, COUNT, period);
+            put_word(&mut self.registers, STATUS, 1);
         } else {
-            put_number(&mut self.registers, COUNT, Size::Word, count - 1);
+            put_word(&mut self.registers, COUNT, count - 1);
         }
     }
 
     fn raised(&self) -> bool
         ensures { result ≡ raises self.now.registers }
     {
-        self.word(STATUS) % 2 == 1 && self.word(CONTROL) / 2 % 2 == 1
+        word_at(&self.registers, STATUS) % 2 == 1 && word_at(&self.registers, CONTROL) / 2 % 2 == 1
     }
 }
 
@@ -92,11 +79,7 @@ impl Bus for Timer {
     ghost lawful = { first_of (Prim.search rules, Prim.grind (arith, Self.row.coded.inj)) };
 
     fn kind(&self, address: u32) -> Kind {
-        if address < 16 {
-            Kind::Device
-        } else {
-            Kind::Absent
-        }
+        REGION.kind_at(&self.registers, address)
     }
 
     fn lines(&self) -> u32 {
@@ -104,18 +87,15 @@ impl Bus for Timer {
     }
 
     fn read(&mut self, size: Size, address: u32) -> Result<u32, Fault> {
-        allow_read(size, address, self.kind(address), Timer::home(address))?;
-        Ok(number_at(&self.registers, address as usize, size))
+        REGION.read(&self.registers, size, address)
     }
 
     fn write(&mut self, size: Size, address: u32, value: u32) -> Result<(), Fault> {
-        allow_write(size, address, self.kind(address), Timer::home(address))?;
-        put_number(&mut self.registers, address as usize, size, value);
-        Ok(())
+        REGION.write(&mut self.registers, size, address, value)
     }
 
     fn tick(&mut self) {
-        if self.word(CONTROL) % 2 == 1 {
+        if word_at(&self.registers, CONTROL) % 2 == 1 {
             self.count_down();
         }
         self.high = self.raised();

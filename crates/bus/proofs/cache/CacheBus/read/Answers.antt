@@ -13,7 +13,7 @@ returns-in-Some g c =
     let ls = c.args.self.now.lines in
     let s = c.args.size in
     let a = c.args.address in
-    let al : a % width s ≡ 0 = eqb-true (a % width s) 0 (sym c.aligned.ensures ∙ c.if-aligned.true) in
+    let al : a % width s ≡ 0 = eqb-true (a % width s) 0 (sym c.is_aligned.ensures.value ∙ c.if-is_aligned.true) in
     let held : held_word ls a ≡ Some c.in-Some.word = sym c.find.ensures ∙ c.in-Some.is in
     record {
       sound = c.requires;
@@ -22,8 +22,8 @@ returns-in-Some g c =
       held = λ x. hit_kept b.rules g.met.B.Bus.lawful m ls s a c.in-Some.word x c.requires.1 al held;
     }
 
-pub returns-then-steady : goal.returns-then-steady
-returns-then-steady g c =
+pub returns-then-is_steady : goal.returns-then-is_steady
+returns-then-is_steady g c =
     let b = g.B.Bus in
     let law = g.met.B.Bus.lawful in
     let m = b.means c.args.self.now.below in
@@ -31,8 +31,8 @@ returns-then-steady g c =
     let s = c.args.size in
     let a = c.args.address in
     let w = c.in_ok-word.word in
-    let al : a % width s ≡ 0 = eqb-true (a % width s) 0 (sym c.aligned.ensures ∙ c.if-aligned.true) in
-    let st : is_steady (b.rules.kind m a) ≡ true = ap is_steady (sym c.kind.ensures) ∙ sym c.steady.ensures ∙ c.if-steady.true in
+    let al : a % width s ≡ 0 = eqb-true (a % width s) 0 (sym c.is_aligned.ensures.value ∙ c.if-is_aligned.true) in
+    let st : is_steady (b.rules.kind m a) ≡ true = ap is_steady (sym c.kind.ensures) ∙ sym c.is_steady.ensures ∙ c.if-is_steady.true in
     let whole : is_steady (b.rules.kind m (a / 4 * 4)) ≡ true = ap is_steady (sym (law.word_kind m a)) ∙ st in
     let got : Ok w ≡ Ok (number (bytes_at b.rules m (a / 4 * 4) 4)) = sym c.in_ok-word.was ∙ c.read.ensures.answer ∙ read_word b.rules law m a st in
     let word : w ≡ number (bytes_at b.rules m (a / 4 * 4) 4) = cc in
@@ -44,6 +44,6 @@ returns-then-steady g c =
         subst (λ n. Right b.rules n c.keep.new.self.lines) (sym meaning) (subst (Right b.rules m) (sym c.keep.ensures.lines) right),
       );
       meaning = meaning;
-      answer = ap Ok c.part-then-steady.ensures ∙ sym (read_part b.rules law m s a w al whole word);
+      answer = ap Ok c.part-then-is_steady.ensures ∙ sym (read_part b.rules law m s a w al whole word);
       held = λ x. ap (λ l. is_held l x) c.keep.ensures.lines ∙ fill_kept b.rules law m ls s a w x c.args.self.now.sets al st;
     }
