@@ -1,5 +1,5 @@
 -- A block of bytes from address 0 on, up to the last whole word: what RAM, ROM and devices are made of.
-use Rattle.std.specs.Prelude.{ℕ, zero, suc, ◌+◌, ◌*◌, ◌/◌, ◌%◌, cond, List, [], ◌∷◌, length, nat_lt, slice_index, slice_set}
+use Rattle.std.specs.Prelude.{ℕ, zero, suc, ◌+◌, ◌*◌, ◌/◌, ◌%◌, Bool, true, false, cond, List, [], ◌∷◌, length, nat_lt, slice_index, slice_set}
 use Rattle.bus.specs.Bytes.{number, word_bytes}
 use Rattle.bus.specs.Rules.{Rules}
 use Rattle.bus.specs.declared.kind.Kind.{Kind}
@@ -46,10 +46,22 @@ block_rules k l = record {
   ticked = λ bs. bs;
 }
 
+abbrev pub memory_kind : Bool → Kind
+memory_kind true = Memory
+memory_kind false = Rom
+
+abbrev pub memory_layer : Bool → Layer
+memory_layer true = layers.Ram
+memory_layer false = layers.Rom
+
+-- the caller's bytes, by whether a write changes them
+abbrev pub memory_rules : Bool → Rules (List ℕ)
+memory_rules w = block_rules (memory_kind w) (memory_layer w)
+
 -- RAM: the caller's bytes as memory
 abbrev pub ram_rules : Rules (List ℕ)
-ram_rules = block_rules Memory layers.Ram
+ram_rules = memory_rules true
 
 -- ROM: the caller's bytes, which no write changes
 abbrev pub rom_rules : Rules (List ℕ)
-rom_rules = block_rules Rom layers.Rom
+rom_rules = memory_rules false
