@@ -54,7 +54,7 @@ impl<const WRITABLE: bool> Bus for Memory<WRITABLE> {
     ghost lawful = { Prim.search rules };
 
     fn kind(&self, address: u32) -> Kind {
-        Memory::<WRITABLE>::region().kind_at(&self.bytes, address)
+        Self::region().kind_at(&self.bytes, address)
     }
 
     fn lines(&self) -> u32 {
@@ -62,11 +62,11 @@ impl<const WRITABLE: bool> Bus for Memory<WRITABLE> {
     }
 
     fn read(&mut self, size: Size, address: u32) -> Result<u32, Fault> {
-        Memory::<WRITABLE>::region().read(&self.bytes, size, address)
+        Self::region().read(&self.bytes, size, address)
     }
 
     fn write(&mut self, size: Size, address: u32, value: u32) -> Result<(), Fault> {
-        Memory::<WRITABLE>::region().write(&mut self.bytes, size, address, value)
+        Self::region().write(&mut self.bytes, size, address, value)
     }
 
     fn tick(&mut self) {}
