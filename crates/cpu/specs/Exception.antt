@@ -4,6 +4,8 @@ use Rattle.cpu.specs.declared.answer.Stop.{Stop}
 use Rattle.cpu.specs.declared.answer.Stop.TheVariants.{Reserved, NotConfigured, Misaligned}
 use Rattle.cpu.specs.declared.exception.Exception.{Exception}
 use Rattle.cpu.specs.declared.exception.Exception.TheVariants.{Breakpoint, FetchFault, DataFault, DivideByZero, Interrupt, SystemCall}
+use Rattle.cpu.specs.declared.phase.Phase.{Phase}
+use Rattle.cpu.specs.declared.phase.Phase.TheVariants.{Fetching, Executing}
 use Rattle.cpu.specs.declared.reason.Trouble.{Trouble}
 use Rattle.cpu.specs.declared.reason.Trouble.TheVariants.{Bus, Divisor, Break, Scall}
 
@@ -40,3 +42,8 @@ while_fetching (Bus f) = FetchFault f
 while_fetching Divisor = DivideByZero
 while_fetching Break = Breakpoint None
 while_fetching Scall = SystemCall
+
+-- in each phase of a step
+abbrev pub raised : Trouble → Phase → Exception
+raised t Fetching = while_fetching t
+raised t Executing = while_executing t

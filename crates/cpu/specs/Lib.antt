@@ -6,5 +6,7 @@ pub mod Entry
 pub mod Exception
 pub mod Flow
 pub mod Pending
+pub mod Refusal
 pub mod Show
 pub mod State
+pub mod Unit

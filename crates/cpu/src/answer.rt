@@ -2,7 +2,7 @@
 use crate::exception::Exception;
 
 /// Why a step stops.
-#[derive(Clone, Copy)]
+#[derive(Clone, Copy, Debug, PartialEq, Eq)]
 pub enum Stop {
     Reserved = 8,
     NotConfigured = 9,

@@ -1,6 +1,6 @@
 // A configuration that the emulator runs, and why others are turned down.
 /// The CFG word and the reset values of the two exception bases, as `vet` has let them through.
-#[derive(Clone, Copy)]
+#[derive(Clone, Copy, Debug, PartialEq, Eq)]
 pub struct Config {
     pub(crate) cfg: u32,
     pub(crate) eba: u32,
@@ -9,7 +9,7 @@ pub struct Config {
     pub(crate) mask: u32,
 }
 
-#[derive(Clone, Copy)]
+#[derive(Clone, Copy, Debug, PartialEq, Eq)]
 pub enum ConfigRefusal {
     Unsupported = 1,
     TooMany = 2,

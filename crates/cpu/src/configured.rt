@@ -4,13 +4,14 @@ ghost use Rattle.cpu.specs.Configured.{binary_configured, immediate_configured, 
 
 use crate::config::Config;
 use crate::processor::Processor;
+use crate::unit::Unit;
 use isa::{BinaryOp, ImmediateOp, Instruction, RegisterOp};
 
 fn binary_configured(config: &Config, op: BinaryOp) -> bool
     ensures { result ≡ binary_configured config.now op }
 {
     match op {
-        BinaryOp::Mul => config.multiplies(),
+        BinaryOp::Mul => config.has(Unit::Multiplier),
         _ => true,
     }
 }
@@ -29,9 +30,9 @@ fn register_configured(config: &Config, op: RegisterOp) -> bool
 {
     match op {
         RegisterOp::Binary(op) => binary_configured(config, op),
-        RegisterOp::Shift(_) => config.shifts(),
+        RegisterOp::Shift(_) => config.has(Unit::Shifter),
         RegisterOp::Sub => true,
-        RegisterOp::Divide(_) => config.divides(),
+        RegisterOp::Divide(_) => config.has(Unit::Divider),
     }
 }
 
@@ -43,8 +44,8 @@ impl Processor {
         match instruction {
             Instruction::Immediate { op, .. } => immediate_configured(&self.config, op),
             Instruction::Register { op, .. } => register_configured(&self.config, op),
-            Instruction::ShiftImmediate { .. } => self.config.shifts(),
-            Instruction::Extend { .. } => self.config.extends(),
+            Instruction::ShiftImmediate { .. } => self.config.has(Unit::Shifter),
+            Instruction::Extend { .. } => self.config.has(Unit::SignExtension),
             _ => true,
         }
     }

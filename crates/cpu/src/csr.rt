@@ -1,5 +1,5 @@
 // The control and status registers by name.
-#[derive(Clone, Copy)]
+#[derive(Clone, Copy, Debug, PartialEq, Eq)]
 pub enum Csr {
     Ie,
     Im,

@@ -1,26 +1,20 @@
 // Reading and writing the control and status registers.
 ghost use Rattle.std.specs.Prelude.{◌≡◌, ◌<◌};
 ghost use Rattle.cpu.specs.Csr.{csr_named, csr_read, csr_written};
-ghost use Rattle.alu.specs.Arithmetic.{flag};
 ghost use Rattle.cpu.specs.Enable.{enable_word, enable_of};
 
 use crate::csr::Csr;
 use crate::enable::Enable;
+use crate::field::has_bit;
 use crate::processor::Processor;
-use crate::vetting::{breakpoint_count, has_bit};
+use crate::unit::Unit;
+use crate::vetting::breakpoint_count;
 use isa::CsrNumber;
 
-pub(crate) fn bit(on: bool) -> u32
-    ensures { result ≡ flag on }
-{
-    if on { 1 } else { 0 }
-}
+impl From<CsrNumber> for Csr {
+    ghost from_gives = { λ csr named. named ≡ csr_named csr.number };
 
-impl Csr {
-    /// The register that a number names.
-    pub fn named(csr: CsrNumber) -> Csr
-        ensures value { result ≡ csr_named csr.number }
-    {
+    fn from(csr: CsrNumber) -> Csr {
         match csr.number {
             0x00 => Csr::Ie,
             0x01 => Csr::Im,
@@ -39,16 +33,18 @@ impl Csr {
     }
 }
 
-impl Enable {
-    pub(crate) fn word(&self) -> u32
-        ensures { result ≡ enable_word self.now }
-    {
-        bit(self.ie) + 2 * bit(self.eie) + 4 * bit(self.bie)
-    }
+impl From<Enable> for u32 {
+    ghost from_gives = { λ enable word. word ≡ enable_word enable };
 
-    fn from_word(word: u32) -> Enable
-        ensures { result ≡ enable_of word }
-    {
+    fn from(enable: Enable) -> u32 {
+        u32::from(enable.ie) + 2 * u32::from(enable.eie) + 4 * u32::from(enable.bie)
+    }
+}
+
+impl From<u32> for Enable {
+    ghost from_gives = { λ word enable. enable ≡ enable_of word };
+
+    fn from(word: u32) -> Enable {
         Enable {
             ie: word % 2 == 1,
             eie: word / 2 % 2 == 1,
@@ -63,13 +59,13 @@ impl Processor {
         ensures value { result ≡ csr_read self.now csr }
     {
         match csr {
-            Csr::Ie => self.status.enable.word(),
+            Csr::Ie => u32::from(self.status.enable),
             Csr::Im => self.status.im,
             Csr::Ip => self.status.ip,
-            Csr::Cc if self.config.counts() => self.status.cc,
+            Csr::Cc if self.config.has(Unit::CycleCounter) => self.status.cc,
             Csr::Cfg => self.config.cfg,
             Csr::Eba => self.status.eba,
-            Csr::Deba if self.config.debugs() => self.status.deba,
+            Csr::Deba if self.config.has(Unit::Debug) => self.status.deba,
             Csr::Cc | Csr::Deba | Csr::Dc | Csr::Breakpoint(_) | Csr::Other => 0,
         }
     }
@@ -79,7 +75,7 @@ impl Processor {
         ensures state { self.new ≡ csr_written self.old csr value }
     {
         match csr {
-            Csr::Ie => self.status.enable = Enable::from_word(value),
+            Csr::Ie => self.status.enable = Enable::from(value),
             Csr::Im => self.status.im = value & self.config.mask,
             Csr::Ip => self.status.ip = self.status.ip & !value,
             Csr::Eba => self.status.eba = value / 256 * 256,
@@ -93,7 +89,7 @@ impl Processor {
     fn write_remap(&mut self, value: u32)
         ensures { self.new ≡ csr_written self.old Csr.Dc value }
     {
-        if self.config.debugs() {
+        if self.config.has(Unit::Debug) {
             self.status.remap = has_bit(1, value);
         }
     }
@@ -101,7 +97,7 @@ impl Processor {
     fn write_debug_base(&mut self, value: u32)
         ensures { self.new ≡ csr_written self.old Csr.Deba value }
     {
-        if self.config.debugs() {
+        if self.config.has(Unit::Debug) {
             self.status.deba = value / 256 * 256;
         }
     }
@@ -109,8 +105,11 @@ impl Processor {
     fn write_breakpoint(&mut self, index: u8, value: u32)
         ensures { self.new ≡ csr_written self.old (Csr.Breakpoint index) value }
     {
-        if self.config.debugs() && index < 4 && (index as u32) < breakpoint_count(self.config.cfg) {
-            self.status.breakpoints[index as usize] = value - value / 2 % 2 * 2;
+        if self.config.has(Unit::Debug)
+            && index < 4
+            && u32::from(index) < breakpoint_count(self.config.cfg)
+        {
+            self.status.breakpoints[usize::from(index)] = value - value / 2 % 2 * 2;
         }
     }
 }

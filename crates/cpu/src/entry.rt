@@ -8,6 +8,7 @@ use crate::answer::Stop;
 use crate::enable::Enable;
 use crate::exception::Exception;
 use crate::processor::Processor;
+use crate::unit::Unit;
 
 impl Exception {
     pub fn number(self) -> u8
@@ -58,7 +59,7 @@ impl Processor {
     fn base(&self, exception: Exception) -> u32
         ensures { result ≡ base self.now exception }
     {
-        if self.config.debugs() && (exception.is_breakpoint() || self.status.remap) {
+        if self.config.has(Unit::Debug) && (exception.is_breakpoint() || self.status.remap) {
             self.status.deba
         } else {
             self.status.eba
@@ -69,7 +70,7 @@ impl Processor {
         ensures { result ≡ handler self.now exception }
     {
         self.base(exception)
-            .wrapping_add(32 * exception.number() as u32)
+            .wrapping_add(32 * u32::from(exception.number()))
     }
 
     /// Breaks off at the PC, and goes on in the exception's handler.

@@ -41,17 +41,11 @@ impl Processor {
         if (a | b | c | d) % 2 == 0 {
             return None;
         }
-        if is_match(self.pc, a) {
-            Some(0)
-        } else if is_match(self.pc, b) {
-            Some(1)
-        } else if is_match(self.pc, c) {
-            Some(2)
-        } else if is_match(self.pc, d) {
-            Some(3)
-        } else {
-            None
-        }
+        self.status
+            .breakpoints
+            .iter()
+            .position(|breakpoint| is_match(self.pc, *breakpoint))
+            .map(|index| index as u8)
     }
 
     /// Whether a line word has no bit of a line that the processor does not have.

@@ -2,7 +2,6 @@
 ghost use Rattle.std.specs.Prelude.{◌≡◌, if◌then◌else◌, Some, None, nat_lt};
 ghost use Rattle.cpu.specs.Show.{shown};
 
-use crate::csr_access::bit;
 use crate::processor::Processor;
 
 impl Processor {
@@ -13,12 +12,12 @@ impl Processor {
         match index {
             0..=31 => Some(self.registers[index as usize]),
             32 => Some(self.pc),
-            33 => Some(self.status.enable.word()),
+            33 => Some(u32::from(self.status.enable)),
             34 => Some(self.status.im),
             35 => Some(self.status.ip),
             36 => Some(self.status.eba),
             37 => Some(self.status.deba),
-            38 => Some(2 * bit(self.status.remap)),
+            38 => Some(2 * u32::from(self.status.remap)),
             39 => Some(self.status.cc),
             40..=43 => Some(self.status.breakpoints[(index - 40) as usize]),
             _ => None,

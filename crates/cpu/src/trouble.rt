@@ -1,9 +1,10 @@
 // A bus fault as a trouble of the processor, and a trouble as the exception that it raises.
 ghost use Rattle.std.specs.Prelude.{◌≡◌};
-ghost use Rattle.cpu.specs.Exception.{while_fetching, while_executing};
+ghost use Rattle.cpu.specs.Exception.{raised};
 ghost use Rattle.cpu.specs.declared.reason.Trouble.TheVariants.{Bus as FromBus};
 
 use crate::exception::Exception;
+use crate::phase::Phase;
 use crate::reason::Trouble;
 use bus::Fault;
 
@@ -16,27 +17,16 @@ impl From<Fault> for Trouble {
 }
 
 impl Trouble {
-    /// The exception that a fetch raises.
-    pub fn while_fetching(self) -> Exception
-        ensures value { result ≡ while_fetching self }
+    /// The exception that a trouble raises in a phase of the step.
+    pub fn raised(self, during: Phase) -> Exception
+        ensures value { result ≡ raised self during }
     {
-        match self {
-            Trouble::Bus(fault) => Exception::FetchFault(fault),
-            Trouble::Divisor => Exception::DivideByZero,
-            Trouble::Break => Exception::Breakpoint(None),
-            Trouble::Scall => Exception::SystemCall,
-        }
-    }
-
-    /// The exception that the instruction raises.
-    pub fn while_executing(self) -> Exception
-        ensures value { result ≡ while_executing self }
-    {
-        match self {
-            Trouble::Bus(fault) => Exception::DataFault(fault),
-            Trouble::Divisor => Exception::DivideByZero,
-            Trouble::Break => Exception::Breakpoint(None),
-            Trouble::Scall => Exception::SystemCall,
+        match (self, during) {
+            (Trouble::Bus(fault), Phase::Fetching) => Exception::FetchFault(fault),
+            (Trouble::Bus(fault), Phase::Executing) => Exception::DataFault(fault),
+            (Trouble::Divisor, _) => Exception::DivideByZero,
+            (Trouble::Break, _) => Exception::Breakpoint(None),
+            (Trouble::Scall, _) => Exception::SystemCall,
         }
     }
 }

@@ -1,26 +1,20 @@
 // Turns reset values into a configuration, or turns them down.
 ghost use Rattle.std.specs.Prelude.{◌≡◌, ◌<◌};
-ghost use Rattle.cpu.specs.Config.{has_bit, unsupported, too_many, breakpoints_without_debug, unaligned, line_count, breakpoint_count, line_mask, vetted, refusal_number, multiplies, divides, shifts, extends, counts, debugs};
+ghost use Rattle.cpu.specs.Config.{unsupported, too_many, breakpoints_without_debug, unaligned, line_count, breakpoint_count, line_mask, vetted};
 
 use crate::config::{Config, ConfigRefusal};
-
-pub(crate) fn has_bit(bit: u32, word: u32) -> bool
-    requires { bit < 32 }
-    ensures { result ≡ has_bit bit word }
-{
-    (word >> bit) % 2 == 1
-}
+use crate::field::{field, has_bit};
 
 fn line_count(cfg: u32) -> u32
     ensures { result ≡ line_count cfg }
 {
-    (cfg >> 12) % 64
+    field::<12, 6>(cfg)
 }
 
 pub(crate) fn breakpoint_count(cfg: u32) -> u32
     ensures { result ≡ breakpoint_count cfg }
 {
-    (cfg >> 18) % 16
+    field::<18, 4>(cfg)
 }
 
 fn is_unsupported(cfg: u32) -> bool
@@ -31,7 +25,7 @@ fn is_unsupported(cfg: u32) -> bool
         || has_bit(9, cfg)
         || has_bit(10, cfg)
         || has_bit(11, cfg)
-        || (cfg >> 22) % 16 != 0
+        || field::<22, 4>(cfg) != 0
 }
 
 fn has_too_many(cfg: u32) -> bool
@@ -87,50 +81,4 @@ pub fn vet(cfg: u32, eba: u32, deba: u32) -> Result<Config, ConfigRefusal>
         deba,
         mask,
     })
-}
-
-impl ConfigRefusal {
-    pub fn number(self) -> u8
-        ensures value { result ≡ refusal_number self }
-    {
-        self as u8
-    }
-}
-
-impl Config {
-    pub(crate) fn multiplies(&self) -> bool
-        ensures value { result ≡ multiplies self.now }
-    {
-        has_bit(0, self.cfg)
-    }
-
-    pub(crate) fn divides(&self) -> bool
-        ensures value { result ≡ divides self.now }
-    {
-        has_bit(1, self.cfg)
-    }
-
-    pub(crate) fn shifts(&self) -> bool
-        ensures value { result ≡ shifts self.now }
-    {
-        has_bit(2, self.cfg)
-    }
-
-    pub(crate) fn extends(&self) -> bool
-        ensures value { result ≡ extends self.now }
-    {
-        has_bit(4, self.cfg)
-    }
-
-    pub(crate) fn counts(&self) -> bool
-        ensures value { result ≡ counts self.now }
-    {
-        has_bit(5, self.cfg)
-    }
-
-    pub(crate) fn debugs(&self) -> bool
-        ensures value { result ≡ debugs self.now }
-    {
-        has_bit(8, self.cfg)
-    }
 }
