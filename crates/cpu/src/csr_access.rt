@@ -7,10 +7,12 @@ use crate::csr::Csr;
 use crate::enable::Enable;
 use crate::field::has_bit;
 use crate::processor::Processor;
+use crate::state::base_of;
 use crate::unit::Unit;
 use crate::vetting::breakpoint_count;
 use isa::CsrNumber;
 
+// The register that a number names.
 impl From<CsrNumber> for Csr {
     ghost from_gives = { λ csr named. named ≡ csr_named csr.number };
 
@@ -33,6 +35,7 @@ impl From<CsrNumber> for Csr {
     }
 }
 
+// The word of IE.
 impl From<Enable> for u32 {
     ghost from_gives = { λ enable word. word ≡ enable_word enable };
 
@@ -46,9 +49,9 @@ impl From<u32> for Enable {
 
     fn from(word: u32) -> Enable {
         Enable {
-            ie: word % 2 == 1,
-            eie: word / 2 % 2 == 1,
-            bie: word / 4 % 2 == 1,
+            ie: has_bit(0, word),
+            eie: has_bit(1, word),
+            bie: has_bit(2, word),
         }
     }
 }
@@ -77,28 +80,12 @@ impl Processor {
         match csr {
             Csr::Ie => self.status.enable = Enable::from(value),
             Csr::Im => self.status.im = value & self.config.mask,
-            Csr::Ip => self.status.ip = self.status.ip & !value,
-            Csr::Eba => self.status.eba = value / 256 * 256,
-            Csr::Dc => self.write_remap(value),
-            Csr::Deba => self.write_debug_base(value),
+            Csr::Ip => self.status.ip &= !value,
+            Csr::Eba => self.status.eba = base_of(value),
+            Csr::Dc if self.config.has(Unit::Debug) => self.status.remap = has_bit(1, value),
+            Csr::Deba if self.config.has(Unit::Debug) => self.status.deba = base_of(value),
             Csr::Breakpoint(index) => self.write_breakpoint(index, value),
-            Csr::Cc | Csr::Cfg | Csr::Other => {}
-        }
-    }
-
-    fn write_remap(&mut self, value: u32)
-        ensures { self.new ≡ csr_written self.old Csr.Dc value }
-    {
-        if self.config.has(Unit::Debug) {
-            self.status.remap = has_bit(1, value);
-        }
-    }
-
-    fn write_debug_base(&mut self, value: u32)
-        ensures { self.new ≡ csr_written self.old Csr.Deba value }
-    {
-        if self.config.has(Unit::Debug) {
-            self.status.deba = value / 256 * 256;
+            Csr::Dc | Csr::Deba | Csr::Cc | Csr::Cfg | Csr::Other => {}
         }
     }
 

@@ -19,18 +19,16 @@ impl fmt::Display for ConfigRefusal {
     ghost output = { λ refusal. Some (refusal_text refusal) };
 
     fn fmt<W: fmt::Write>(&self, f: &mut fmt::Formatter<W>) -> fmt::Result {
-        match self {
-            ConfigRefusal::Unsupported => write!(f, "the CFG word asks for what is not supported"),
-            ConfigRefusal::TooMany => write!(
-                f,
+        f.write_str(match self {
+            ConfigRefusal::Unsupported => "the CFG word asks for what is not supported",
+            ConfigRefusal::TooMany => {
                 "the CFG word has too many interrupt lines or breakpoint registers"
-            ),
-            ConfigRefusal::BreakpointsWithoutDebug => write!(
-                f,
+            }
+            ConfigRefusal::BreakpointsWithoutDebug => {
                 "the CFG word has breakpoint registers without debugging"
-            ),
-            ConfigRefusal::BaseUnaligned => write!(f, "an exception base is not a multiple of 256"),
-        }
+            }
+            ConfigRefusal::BaseUnaligned => "an exception base is not a multiple of 256",
+        })
     }
 }
 

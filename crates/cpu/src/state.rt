@@ -1,19 +1,26 @@
 // Reading and writing a processor's registers, and the state that power gives.
 ghost use Rattle.std.specs.Prelude.{◌≡◌};
-ghost use Rattle.cpu.specs.State.{reset, reg, set_reg, counted, with_status, with_ip};
+ghost use Rattle.cpu.specs.State.{base_of, reset, reg, set_reg, counted, with_status, with_ip};
 
 use crate::config::Config;
 use crate::enable::Enable;
 use crate::processor::{Processor, Status};
 use isa::Register;
 
+// A base keeps no low byte.
+pub(crate) fn base_of(value: u32) -> u32
+    ensures { result ≡ base_of value }
+{
+    value / 256 * 256
+}
+
 impl Processor {
     /// A processor as power gives it: PC and EBA at EBA's reset value, DEBA at its own, registers as given, all else 0.
     pub fn new(config: Config, registers: [u32; 32]) -> Processor
         ensures state { result ≡ reset config registers }
     {
-        let eba = config.eba / 256 * 256;
-        let deba = config.deba / 256 * 256;
+        let eba = base_of(config.eba);
+        let deba = base_of(config.deba);
         Processor {
             config,
             registers,
