@@ -1,3 +1,2 @@
--- The lemmas on the text of a trace.
+-- The lemma on the numbers of a trace.
 pub mod Numerals
-pub mod Totals

@@ -3,8 +3,10 @@
 
 mod line;
 mod number;
+mod outcome;
 mod whole;
 
-pub use line::{StepKind, StepLine, end_line, header_line, refusal_line};
+pub use line::{StepLine, end_line, header_line, refusal_line};
 pub use number::decimal;
+pub use outcome::Outcome;
 pub use whole::trace;

@@ -1,49 +1,30 @@
 // The lines of a trace, each a row of fields.
 ghost use Rattle.std.specs.Prelude.{◌≡◌, IfOk, string_bytes};
-ghost use Rattle.report.specs.Lines.{header, letter, step_text, end_text, refusal_text};
+ghost use Rattle.report.specs.Lines.{header, step_text, end_text, refusal_text};
 
 use crate::number::decimal;
+use crate::outcome::Outcome;
 use hex_text::hexadecimal;
 use std::alloc::{AllocError, Global};
 
-// How a step ended: an instruction done, an exception taken, or a stop.
-#[derive(Clone, Copy)]
-pub enum StepKind {
-    Done,
-    Taken,
-    Stopped,
-}
-
-// One step: its number, the program counter before it, and the word, exception or refusal that it gave.
-#[derive(Clone, Copy)]
+/// One step: its number, the program counter before it, and how it ended.
+#[derive(Clone, Copy, Debug, PartialEq, Eq)]
 pub struct StepLine {
     pub step: u32,
     pub pc: u32,
-    pub kind: StepKind,
-    pub value: u32,
-}
-
-impl StepKind {
-    fn letter(self) -> &'static str
-        ensures value { result.now ≡ letter self }
-    {
-        match self {
-            StepKind::Done => "D",
-            StepKind::Taken => "X",
-            StepKind::Stopped => "S",
-        }
-    }
+    pub outcome: Outcome,
 }
 
 impl StepLine {
+    // By hand, and not by `Display`: the library says of no `{:08X}` what it prints, and `hexadecimal` allocates.
     pub fn text(&self, heap: Global) -> Result<String, AllocError>
         ensures value { IfOk result (λ t. string_bytes t ≡ step_text self.now) }
     {
         let step = decimal(heap, self.step.into())?;
         let pc = hexadecimal(heap, self.pc)?;
-        let kind = self.kind.letter();
-        let value = hexadecimal(heap, self.value)?;
-        format!(in heap; "{step},{pc},{kind},{value}\n")
+        let letter = self.outcome.letter();
+        let value = hexadecimal(heap, self.outcome.value())?;
+        format!(in heap; "{step},{pc},{letter},{value}\n")
     }
 }
 

@@ -5,6 +5,7 @@ ghost use Rattle.report.specs.Numeral.{WritesDecimal};
 use std::alloc::{AllocError, Global};
 
 // The digits of the tenth part, and then the last one.
+// By recursion on the tenth part: the project's rule for the routine that prints counts.
 pub fn decimal(heap: Global, n: u64) -> Result<String, AllocError>
     ensures value { IfOk result (λ t. string_bytes t ≡ decimal n) }
     ensures reads { IfOk result (λ t. WritesDecimal n (string_bytes t)) }

@@ -1,25 +1,18 @@
 // The text of a whole trace.
-ghost use Rattle.std.specs.Prelude.{◌≡◌, IfOk, string_bytes};
-ghost use Rattle.report.specs.Lines.{total, one_done, one_taken, trace_text};
+ghost use Rattle.std.specs.Prelude.{◌≡◌, IfOk, string_bytes, count_by};
+ghost use Rattle.report.specs.Lines.{tells_done, tells_taken, trace_text};
 
-use crate::line::{StepKind, StepLine, end_line, header_line};
+use crate::line::{StepLine, end_line, header_line};
 use std::alloc::{AllocError, Global};
 
 // How many instructions were done, and how many exceptions taken.
 fn counts(lines: &[StepLine]) -> (u64, u64)
-    ensures done { result.0 ≡ total one_done lines.now }
-    ensures taken { result.1 ≡ total one_taken lines.now }
+    ensures done { result.0 ≡ count_by tells_done lines.now }
+    ensures taken { result.1 ≡ count_by tells_taken lines.now }
 {
-    let mut done = 0;
-    let mut taken = 0;
-    for line in lines {
-        match line.kind {
-            StepKind::Done => done += 1,
-            StepKind::Taken => taken += 1,
-            StepKind::Stopped => {}
-        }
-    }
-    (done, taken)
+    let done = lines.iter().filter(|line| line.outcome.is_done()).count();
+    let taken = lines.iter().filter(|line| line.outcome.is_taken()).count();
+    (done as u64, taken as u64)
 }
 
 // The header, a line for each step, and the counts of instructions done and exceptions taken.

@@ -1,5 +1,5 @@
 // What numbers, lines and a whole trace look like.
-use report::{StepKind, StepLine, decimal, end_line, refusal_line, trace};
+use report::{Outcome, StepLine, decimal, end_line, refusal_line, trace};
 use std::test::Fail;
 
 #[test]
@@ -21,21 +21,20 @@ fn refusals(rt: HostRuntime) -> Result<(), Fail> {
     Ok(())
 }
 
-fn step(number: u32, pc: u32, kind: StepKind, value: u32) -> StepLine {
+fn step(number: u32, pc: u32, outcome: Outcome) -> StepLine {
     StepLine {
         step: number,
         pc,
-        kind,
-        value,
+        outcome,
     }
 }
 
 #[test]
 fn lines(rt: HostRuntime) -> Result<(), Fail> {
     let heap = rt.alloc();
-    let first = step(1, 0, StepKind::Done, 0x98000000);
+    let first = step(1, 0, Outcome::Done(0x98000000));
     assert!(rt; first.text(heap)?.as_str() == "1,00000000,D,98000000\n");
-    let last = step(64, 0xfffffffc, StepKind::Stopped, 10);
+    let last = step(64, 0xfffffffc, Outcome::Stopped(10));
     assert!(rt; last.text(heap)?.as_str() == "64,FFFFFFFC,S,0000000A\n");
     assert!(rt; end_line(heap, 1, 1)?.as_str() == "end,1,1\n");
     Ok(())
@@ -44,9 +43,9 @@ fn lines(rt: HostRuntime) -> Result<(), Fail> {
 #[test]
 fn whole(rt: HostRuntime) -> Result<(), Fail> {
     let steps = [
-        step(1, 0, StepKind::Done, 0x98000000),
-        step(2, 4, StepKind::Taken, 7),
-        step(3, 0xe0, StepKind::Stopped, 8),
+        step(1, 0, Outcome::Done(0x98000000)),
+        step(2, 4, Outcome::Taken(7)),
+        step(3, 0xe0, Outcome::Stopped(8)),
     ];
     let text = trace(rt.alloc(), &steps)?;
     assert!(rt;
