@@ -1,2 +1,2 @@
-pub mod First
+-- The lemmas on the lines of a run.
 pub mod Walk

@@ -1,3 +1,4 @@
 pub mod Layout
+pub mod Refusals
 pub mod Steps
 pub mod Whole

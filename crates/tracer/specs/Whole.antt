@@ -15,13 +15,14 @@ abbrev pub first_processor : Processor
 first_processor = reset (configuration 0x00101137 0x00000000 0x00000800) (replicate 32 0xA5A5A5A5)
 
 module _ {M : Type 0} (r : Rules M) where
-  -- after an answer of load: the refusal alone, or the lines of 64 steps at most
+  -- what an image is told: one of more than 65536 bytes is not looked at
+  abbrev pub admitted : Machine M → List ℕ → Answer
+  admitted s image = cond (nat_lt 65536 (length image)) (refused 0 65536) (load_answer r s image)
+
+  -- after that answer: the refusal alone, or the lines of 64 steps at most
   abbrev pub after_load : Machine M → Answer → List ℕ
   after_load s (accepted n) = trace_text (lines r 64 1 s)
   after_load s (refused number place) = refusal_text number place
 
-  -- an image of more than 65536 bytes is not looked at
   abbrev pub trace_on : M → List ℕ → List ℕ
-  trace_on m image =
-      cond (nat_lt 65536 (length image)) (refusal_text 0 65536)
-      (after_load (loaded_into r (machine first_processor m) image) (load_answer r (machine first_processor m) image))
+  trace_on m image = after_load (loaded_into r (machine first_processor m) image) (admitted (machine first_processor m) image)

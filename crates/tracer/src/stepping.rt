@@ -1,34 +1,24 @@
 // Steps of a board, each as a line of the trace.
 ghost use Rattle.std.specs.Prelude.{◌≡◌, IfOk};
 ghost use Rattle.board.specs.Machine.{seen};
-ghost use Rattle.tracer.specs.Steps.{line_of, is_stopped, lines};
+ghost use Rattle.board.specs.Step.{stepped};
+ghost use Rattle.tracer.specs.Steps.{line_at, lines};
 
 use board::Board;
 use bus::Bus;
-use cpu::Answer;
-use report::{StepKind, StepLine};
+use report::StepLine;
 use std::alloc::{AllocError, Global};
 
-fn line_of(step: u32, pc: u32, answer: Answer) -> StepLine
-    ensures { result ≡ line_of step pc answer }
+// Makes a step, and tells it as the line of this number.
+fn step_line<B: Bus>(step: u32, board: &mut Board<B>) -> StepLine
+    requires { B.Bus.sound board.old.bus }
+    ensures sound { B.Bus.sound board.new.bus }
+    ensures state { seen B.Bus.means board.new ≡ (stepped B.Bus.rules (seen B.Bus.means board.old)).1 }
+    ensures line { result ≡ line_at B.Bus.rules step (seen B.Bus.means board.old) }
 {
-    let (kind, value) = match answer {
-        Answer::Done(word) => (StepKind::Done, word),
-        Answer::Taken(exception) => (StepKind::Taken, exception.number() as u32),
-        Answer::Stopped { stop, .. } => (StepKind::Stopped, stop.number() as u32),
-    };
-    StepLine {
-        step,
-        pc,
-        kind,
-        value,
-    }
-}
-
-fn stopped(line: StepLine) -> bool
-    ensures { result ≡ is_stopped line.kind }
-{
-    matches!(line.kind, StepKind::Stopped)
+    let pc = board.pc();
+    let outcome = board.step().into();
+    StepLine { step, pc, outcome }
 }
 
 // The lines of at most as many steps as the budget has.
@@ -41,11 +31,10 @@ pub fn steps<B: Bus>(
     ensures value { IfOk result (λ v. v.items ≡ lines B.Bus.rules budget 1 (seen B.Bus.means board.old)) }
 {
     let mut found = Vec::new(heap);
-    for k in 0..budget {
-        let pc = board.pc();
-        let line = line_of(k + 1, pc, board.step());
+    for step in 1..=budget {
+        let line = step_line(step, board);
         found.push(line)?;
-        if stopped(line) {
+        if line.outcome.is_stopped() {
             return Ok(found);
         }
     }

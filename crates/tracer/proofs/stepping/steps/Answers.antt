@@ -1,54 +1,41 @@
-use Rattle.std.proofs.Common.{◌≡◌, ◌+◌, ◌-◌, true, false, [], ◌∷◌, ◌++◌, vec_items, sym, refl, ap, ◌∙◌, arith, rules}
-use Rattle.std.proofs.lemmas.Slice.{pushed}
-use Rattle.std.proofs.lemmas.Result.{IfOk-from_err}
+-- A line more, the line of a stop, and no step left.
+use Rattle.std.proofs.Common.{◌≡◌, ◌+◌, true, false, vec_items, sym, ap, ◌∙◌, arith}
 use Rattle.board.specs.Machine.{seen}
-use Rattle.board.specs.Step.{stepped}
-use Rattle.tracer.specs.Steps.{is_stopped, kind_of, line_of, line_at, lines}
-use Rattle.tracer.proofs.Walk.{one_more, the_last, no_more, none_yet}
+use Rattle.report.specs.Outcomes.{is_stopped}
+use Rattle.tracer.proofs.Walk.{one_more, the_last, no_more}
 use Rattle.tracer.proofs.stepping.steps.Goals as goal
+use Rattle.tracer.proofs.stepping.steps.Goals.{else-loop-step-test, then-loop-step-test+in_ok-push+else-is_stopped+else-step-budget}
 
-pub loop-k-init : goal.loop-k-init
-loop-k-init g c =
+pub loop-step-preserved : goal.loop-step-preserved
+loop-step-preserved g c =
     let b = g.B.Bus in
-    (c.requires, none_yet b.rules c.args.budget (seen b.means c.args.board.now) (vec_items c.new-found.result) c.new-found.ensures.items)
-
-pub loop-k-preserved : goal.loop-k-preserved
-loop-k-preserved g c =
-    let b = g.B.Bus in
-    let s = seen b.means c.loop-k.board in
-    let k = c.loop-k.k in
-    let line : c.line_of-line.result ≡ line_at b.rules (k + 1) s =
-    c.line_of-line.ensures ∙ ap (λ p. line_of (k + 1) p c.step.result) c.pc-pc.ensures.value ∙ ap (line_of (k + 1) s.cpu.pc) c.step.ensures.answer in
-    let go : is_stopped (kind_of (stepped b.rules s).0) ≡ false =
-    sym (ap (λ l. is_stopped l.kind) line) ∙ sym c.stopped.ensures ∙ c.if-stopped.false in
-    let found : vec_items c.push.new.self ≡ vec_items c.loop-k.found ++ c.line_of-line.result ∷ [] =
-    pushed (c.line_of-line.result ∷ []) refl c.in_ok-push.was c.push.ensures.items in
-    let more = one_more b.rules c.args.budget k s (vec_items c.loop-k.found) _ (omega arith) go c.loop-k.invariant.1 in (
-      c.step.ensures.sound,
-      ap (λ xs. xs ++ lines b.rules (c.args.budget - (k + 1)) (k + 1 + 1) (seen b.means c.step.new.self)) (found ∙ ap (λ l. vec_items c.loop-k.found ++ l ∷ []) line)
-          ∙ ap (λ t. (vec_items c.loop-k.found ++ line_at b.rules (k + 1) s ∷ []) ++ lines b.rules (c.args.budget - (k + 1)) (k + 1 + 1) t) c.step.ensures.state ∙ more,
+    let on : is_stopped c.step_line-line.result.outcome ≡ false = sym c.is_stopped.ensures.value ∙ c.if-is_stopped.false in (
+      c.step_line-line.ensures.sound,
+      one_more b.rules c.args.budget c.loop-step.step (seen b.means c.loop-step.board) (seen b.means c.step_line-line.new.board) (vec_items c.loop-step.found) (omega arith)
+          c.step_line-line.ensures.line c.step_line-line.ensures.state on c.in_ok-push.ensures.items c.loop-step.invariant.1,
     )
 
-pub returns-then-stopped : goal.returns-then-stopped
-returns-then-stopped g c =
+pub returns-then-is_stopped : goal.returns-then-is_stopped
+returns-then-is_stopped g c =
     let b = g.B.Bus in
-    let s = seen b.means c.loop-k.board in
-    let k = c.loop-k.k in
-    let line : c.line_of-line.result ≡ line_at b.rules (k + 1) s =
-    c.line_of-line.ensures ∙ ap (λ p. line_of (k + 1) p c.step.result) c.pc-pc.ensures.value ∙ ap (line_of (k + 1) s.cpu.pc) c.step.ensures.answer in
-    let stop : is_stopped (kind_of (stepped b.rules s).0) ≡ true =
-    sym (ap (λ l. is_stopped l.kind) line) ∙ sym c.stopped.ensures ∙ c.if-stopped.true in
-    let found : vec_items c.push.new.self ≡ vec_items c.loop-k.found ++ c.line_of-line.result ∷ [] =
-    pushed (c.line_of-line.result ∷ []) refl c.in_ok-push.was c.push.ensures.items in
+    let stop : is_stopped c.step_line-line.result.outcome ≡ true = sym c.is_stopped.ensures.value ∙ c.if-is_stopped.true in
     record {
-      value = found ∙ ap (λ l. vec_items c.loop-k.found ++ l ∷ []) line
-          ∙ the_last b.rules c.args.budget k s (vec_items c.loop-k.found) _ (omega arith) stop c.loop-k.invariant.1;
+      value = the_last b.rules c.args.budget c.loop-step.step (seen b.means c.loop-step.board) (vec_items c.loop-step.found) (omega arith)
+          c.step_line-line.ensures.line stop c.in_ok-push.ensures.items c.loop-step.invariant.1;
     }
 
 pub returns : goal.returns
 returns g c =
     let b = g.B.Bus in
-    record { value = no_more b.rules c.args.budget c.loop-k.k (seen b.means c.loop-k.board) (vec_items c.loop-k.found) _ (omega arith) c.loop-k.invariant.1 }
-
-pub returns-in_err-push : goal.returns-in_err-push
-returns-in_err-push g c = record { value = IfOk-from_err c.from_residual.result _ (search rules) }
+    let s = seen b.means c.loop-step.board in
+    let k = c.loop-step.step in
+    elim c.loop-step-test.branch [
+      | else-loop-step-test w ↦ record { value = ap vec_items w.found-is ∙ no_more b.rules c.args.budget k s (omega arith) c.loop-step.invariant.1 }
+      | then-loop-step-test+in_ok-push+else-is_stopped+else-step-budget w ↦
+          let t = seen b.means w.step_line-line.new.board in
+          let on : is_stopped w.step_line-line.result.outcome ≡ false = sym w.is_stopped.ensures.value ∙ w.if-is_stopped.false in
+          record {
+            value = ap vec_items w.found-is ∙ no_more b.rules c.args.budget (k + 1) t (omega arith)
+                (one_more b.rules c.args.budget k s t (vec_items c.loop-step.found) (omega arith) w.step_line-line.ensures.line w.step_line-line.ensures.state on w.in_ok-push.ensures.items c.loop-step.invariant.1);
+          }
+    ]
