@@ -15,9 +15,7 @@ use image::{Line, Refusal, check, line_at, read_line};
 
 // Puts bytes into memory from `address` on.
 fn put_bytes<B: Bus>(bus: &mut B, address: u32, bytes: &[u8]) -> Result<(), Fault>
-    requires sound { B.Bus.sound bus.old }
     requires placed { on_memory (memory_in B.Bus.rules (B.Bus.means bus.old)) address bytes.now ≡ true }
-    ensures sound { B.Bus.sound bus.new }
     ensures meaning { B.Bus.means bus.new ≡ stored_all B.Bus.rules (B.Bus.means bus.old) address bytes.now }
     ensures answer { result ≡ Ok tt }
 {
@@ -31,9 +29,7 @@ fn put_bytes<B: Bus>(bus: &mut B, address: u32, bytes: &[u8]) -> Result<(), Faul
 
 // Puts the bytes of each data line into memory, line by line up to the end line.
 fn put_lines<B: Bus>(bus: &mut B, image: &[u8]) -> Result<(), Fault>
-    requires sound { B.Bus.sound bus.old }
     requires placed { AllByRecursion (λ d. on_memory (memory_in B.Bus.rules (B.Bus.means bus.old)) d.address d.bytes ≡ true) (image_data image.now) }
-    ensures sound { B.Bus.sound bus.new }
     ensures meaning { B.Bus.means bus.new ≡ put_data B.Bus.rules (B.Bus.means bus.old) (image_data image.now) }
     ensures answer { result ≡ Ok tt }
 {
@@ -51,8 +47,6 @@ fn put_lines<B: Bus>(bus: &mut B, image: &[u8]) -> Result<(), Fault>
 impl<B: Bus> Board<B> {
     /// Checks an image whole, then puts its bytes into memory line by line, and answers the count of its data lines.
     pub fn load(&mut self, image: &[u8]) -> Result<u32, Refusal>
-        requires { B.Bus.sound self.old.bus }
-        ensures sound { B.Bus.sound self.new.bus }
         ensures state { seen B.Bus.means self.new ≡ loaded_into B.Bus.rules (seen B.Bus.means self.old) image.now }
         ensures answer { answer_in result ≡ load_answer B.Bus.rules (seen B.Bus.means self.old) image.now }
         ensures acceptance { Accepts (memory_in B.Bus.rules (B.Bus.means self.old.bus)) image.now (answer_in result) }

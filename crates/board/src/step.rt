@@ -18,8 +18,6 @@ use isa::Instruction;
 impl<B: Bus> Board<B> {
     /// A board as power gives it.
     pub fn power(config: Config, registers: [u32; 32], bus: B) -> Board<B>
-        requires { B.Bus.sound bus }
-        ensures sound { B.Bus.sound result.bus }
         ensures state { seen B.Bus.means result ≡ machine (reset config registers) (B.Bus.means bus) }
         ensures aligned { Aligned result.processor }
     {
@@ -38,8 +36,6 @@ impl<B: Bus> Board<B> {
 
     // How a step ends that does not stop: the counter grows, and the bus ticks.
     fn settle(&mut self)
-        requires { B.Bus.sound self.old.bus }
-        ensures sound { B.Bus.sound self.new.bus }
         ensures state { seen B.Bus.means self.new ≡ settled B.Bus.rules (seen B.Bus.means self.old) }
     {
         self.processor.count();
@@ -48,9 +44,7 @@ impl<B: Bus> Board<B> {
 
     // Breaks off at the PC, with the pending lines remembered, and ends the step.
     fn take(&mut self, lines: u32, exception: Exception) -> Answer
-        requires sound { B.Bus.sound self.old.bus }
         requires lines { lines ≡ pend B.Bus.rules (seen B.Bus.means self.old) }
-        ensures sound { B.Bus.sound self.new.bus }
         ensures state { seen B.Bus.means self.new ≡ (takes B.Bus.rules (seen B.Bus.means self.old) exception).1 }
         ensures answer { result ≡ (takes B.Bus.rules (seen B.Bus.means self.old) exception).0 }
     {
@@ -68,8 +62,6 @@ impl<B: Bus> Board<B> {
     }
 
     fn fetch(&mut self) -> Result<u32, Trouble>
-        requires { B.Bus.sound self.old.bus }
-        ensures sound { B.Bus.sound self.new.bus }
         ensures state { seen B.Bus.means self.new ≡ seen B.Bus.means self.old }
         ensures answer { result ≡ fetched B.Bus.rules (seen B.Bus.means self.old) }
     {
@@ -79,9 +71,7 @@ impl<B: Bus> Board<B> {
 
     // A fetched word: decoded, checked and done, or what else the step comes to.
     fn perform(&mut self, lines: u32, word: u32) -> Answer
-        requires sound { B.Bus.sound self.old.bus }
         requires lines { lines ≡ pend B.Bus.rules (seen B.Bus.means self.old) }
-        ensures sound { B.Bus.sound self.new.bus }
         ensures state { seen B.Bus.means self.new ≡ (if_decoded B.Bus.rules (seen B.Bus.means self.old) word (decoded word)).1 }
         ensures answer { result ≡ (if_decoded B.Bus.rules (seen B.Bus.means self.old) word (decoded word)).0 }
     {
@@ -96,9 +86,7 @@ impl<B: Bus> Board<B> {
 
     // An instruction that nothing bars.
     fn complete(&mut self, lines: u32, word: u32, instruction: Instruction) -> Answer
-        requires sound { B.Bus.sound self.old.bus }
         requires lines { lines ≡ pend B.Bus.rules (seen B.Bus.means self.old) }
-        ensures sound { B.Bus.sound self.new.bus }
         ensures state { seen B.Bus.means self.new ≡ (if_executed B.Bus.rules (seen B.Bus.means self.old) word (executed B.Bus.rules (noted B.Bus.rules (seen B.Bus.means self.old)) instruction)).1 }
         ensures answer { result ≡ (if_executed B.Bus.rules (seen B.Bus.means self.old) word (executed B.Bus.rules (noted B.Bus.rules (seen B.Bus.means self.old)) instruction)).0 }
     {
@@ -114,8 +102,6 @@ impl<B: Bus> Board<B> {
 
     // Breaks off at the PC and ends the step.
     fn depart(&mut self, exception: Exception) -> Answer
-        requires { B.Bus.sound self.old.bus }
-        ensures sound { B.Bus.sound self.new.bus }
         ensures state { seen B.Bus.means self.new ≡ departed B.Bus.rules (seen B.Bus.means self.old) exception }
         ensures answer { result ≡ Answer.Taken exception }
     {
@@ -126,8 +112,6 @@ impl<B: Bus> Board<B> {
 
     // The step itself, by its definition.
     fn make_step(&mut self) -> Answer
-        requires { B.Bus.sound self.old.bus }
-        ensures sound { B.Bus.sound self.new.bus }
         ensures state { seen B.Bus.means self.new ≡ (stepped B.Bus.rules (seen B.Bus.means self.old)).1 }
         ensures answer { result ≡ (stepped B.Bus.rules (seen B.Bus.means self.old)).0 }
     {
@@ -146,8 +130,6 @@ impl<B: Bus> Board<B> {
 
     /// One step: an instruction done, an exception taken, or a stop that changes nothing.
     pub fn step(&mut self) -> Answer
-        requires { B.Bus.sound self.old.bus }
-        ensures sound { B.Bus.sound self.new.bus }
         ensures state { seen B.Bus.means self.new ≡ (stepped B.Bus.rules (seen B.Bus.means self.old)).1 }
         ensures answer { result ≡ (stepped B.Bus.rules (seen B.Bus.means self.old)).0 }
         ensures counter { self.new.processor.status.cc ≡ counter_after result self.old.processor.status.cc }

@@ -105,10 +105,19 @@ module _ {M : Type 0} (r : Rules M) (laws : Laws r) where
       rw (eq-eqb (a % width s) 0 al) (read_steady (r.kind m a) (r.home m a) _ steady ∙ ap (λ bs. Ok (number bs)) (sym same))
 
   -- the word below an aligned address of ROM or memory can be read
-  pub read_word : (m : M) (a : ℕ) → is_steady (r.kind m a) ≡ true → read_answer r m Word (a / 4 * 4) ≡ Ok (number (bytes_at r m (a / 4 * 4) 4))
+  read_word : (m : M) (a : ℕ) → is_steady (r.kind m a) ≡ true → read_answer r m Word (a / 4 * 4) ≡ Ok (number (bytes_at r m (a / 4 * 4) 4))
   read_word m a st =
       let e : a / 4 * 4 % 4 ≡ 0 = omega arith in
       rw (eq-eqb (a / 4 * 4 % 4) 0 e) (read_steady (r.kind m (a / 4 * 4)) (r.home m (a / 4 * 4)) _ (ap is_steady (sym (laws.word_kind m a)) ∙ st))
+
+  -- and where it was read, it is the one that lies there
+  pub read_whole : (m : M) (a w : ℕ) → is_steady (r.kind m a) ≡ true → Ok w ≡ read_answer r m Word (a / 4 * 4) →
+      (is_steady (r.kind m (a / 4 * 4)) ≡ true) × (w ≡ number (bytes_at r m (a / 4 * 4) 4))
+  read_whole m a w st is =
+      let whole : is_steady (r.kind m (a / 4 * 4)) ≡ true = ap is_steady (sym (laws.word_kind m a)) ∙ st in
+      let got : Ok w ≡ Ok (number (bytes_at r m (a / 4 * 4) 4)) = is ∙ read_word m a st in
+      let word : w ≡ number (bytes_at r m (a / 4 * 4) 4) = cc in
+      (whole, word)
 
   -- what a line that is right says of the word asked for
   right_word : (m : M) (k t w : ℕ) (o : Option Line) → RightLine r m k o → word_for t o ≡ Some w →

@@ -13,7 +13,6 @@ use crate::refusal::{Cause, Refusal};
 use bus::{Bus, Kind};
 
 fn is_memory<B: Bus>(bus: &B, address: u32) -> bool
-    requires { B.Bus.sound bus.now }
     ensures value { result ≡ memory_in B.Bus.rules (B.Bus.means bus.now) address }
 {
     matches!(bus.kind(address), Kind::Memory)
@@ -21,7 +20,6 @@ fn is_memory<B: Bus>(bus: &B, address: u32) -> bool
 
 // Whether each of the bytes falls on memory, from `address` on.
 fn on_memory<B: Bus>(bus: &B, address: u32, bytes: &[u8]) -> bool
-    requires { B.Bus.sound bus.now }
     ensures value { result ≡ on_memory (memory_in B.Bus.rules (B.Bus.means bus.now)) address bytes.now }
 {
     let mut at = u64::from(address);
@@ -56,7 +54,6 @@ fn check_end(
 
 // The count of data lines of an image, or why and where it is turned down.
 pub fn check<B: Bus>(bus: &B, image: &[u8]) -> Result<u32, Refusal>
-    requires { B.Bus.sound bus.now }
     ensures answer { answer_in result ≡ checked (memory_in B.Bus.rules (B.Bus.means bus.now)) image.now }
     ensures acceptance { Accepts (memory_in B.Bus.rules (B.Bus.means bus.now)) image.now (answer_in result) }
 {

@@ -13,7 +13,6 @@ const MEMORY: usize = 4096;
 // The bus as it is first, its memory all zero.
 pub fn board_bus(heap: Global) -> Result<BoardBus, AllocError>
     ensures meaning { IfOk result (λ b. meant b ≡ first_meaning (replicate 4096 0)) }
-    ensures sound { IfOk result Sound }
 {
     let bytes = vec![in heap; 0; MEMORY]?;
     let devices = Fork::new(Timer::new(0), Port::new(heap, 64)?, 16);

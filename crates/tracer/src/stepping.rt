@@ -27,7 +27,6 @@ pub fn steps<B: Bus>(
     board: &mut Board<B>,
     budget: u32,
 ) -> Result<Vec<StepLine>, AllocError>
-    requires { B.Bus.sound board.old.bus }
     ensures value { IfOk result (λ v. v.items ≡ lines B.Bus.rules budget 1 (seen B.Bus.means board.old)) }
 {
     let mut found = Vec::new(heap);

@@ -10,7 +10,6 @@ returns-in_err-write-2 g c =
     let m = both c.args.self.now.split (l.means c.args.self.now.low) (h.means c.args.self.now.high) in
     let told = c.write-else-address-self.ensures.answer ∙ sym (answer_high l.rules h.rules m c.args.size c.args.address _ (omega arith)) in
     record {
-      sound = search rules;
       meaning = ap (λ x. both c.args.self.now.split (l.means c.args.self.now.low) x) c.write-else-address-self.ensures.meaning
           ∙ sym (written_high l.rules h.rules m c.args.size c.args.address _ c.args.value (omega arith));
       answer = search (rules, told);
