@@ -7,7 +7,6 @@ use Rattle.board.proofs.load.put_bytes.Given as goal
 
 abbrev pub invariant-loop-byte : goal.invariant-loop-byte
 invariant-loop-byte g l =
-    g.B.Bus.sound l.bus
-    × (stored_all g.B.Bus.rules (g.B.Bus.means l.bus) l.at (drop l.byte-index l.bytes) ≡ stored_all g.B.Bus.rules (g.B.Bus.means l.initial.bus) l.address l.bytes)
+    (stored_all g.B.Bus.rules (g.B.Bus.means l.bus) l.at (drop l.byte-index l.bytes) ≡ stored_all g.B.Bus.rules (g.B.Bus.means l.initial.bus) l.address l.bytes)
     × (on_memory (memory_in g.B.Bus.rules (g.B.Bus.means l.bus)) l.at (drop l.byte-index l.bytes) ≡ true)
     × (l.at ≤ 2 ^ 32)

@@ -21,8 +21,7 @@ loop-line-preserved g c =
     let is = c.in-Data.ensures.value in
     let put : n ≡ stored_all r m d.address d.bytes = c.put_bytes.ensures.meaning ∙ ap (stored_all r m d.address) c.as_slice.ensures.value in
     let to : place + length l + 1 ≡ place + (length l + 1) = omega arith in (
-      c.put_bytes.ensures.sound,
-      ap (λ k. put_data r n (data_of (lines_of (drop k image)))) (sym to) ∙ lines_more r image place l at d is m n put ∙ c.loop-line.invariant.1,
-      subst (λ k. Placed r n (data_of (lines_of (drop k image)))) to (lines_placed r image place l at d is m n put g.met.B.Bus.lawful c.loop-line.invariant.2),
+      ap (λ k. put_data r n (data_of (lines_of (drop k image)))) (sym to) ∙ lines_more r image place l at d is m n put ∙ c.loop-line.invariant.0,
+      subst (λ k. Placed r n (data_of (lines_of (drop k image)))) to (lines_placed r image place l at d is m n put g.met.B.Bus.lawful c.loop-line.invariant.1),
       omega arith,
     )

@@ -8,8 +8,7 @@ use Rattle.board.proofs.load.put_lines.Given as goal
 
 abbrev pub invariant-loop-line : goal.invariant-loop-line
 invariant-loop-line g l =
-    g.B.Bus.sound l.bus
-    × (put_data g.B.Bus.rules (g.B.Bus.means l.bus) (data_of (lines_of (drop l.place l.image))) ≡ put_data g.B.Bus.rules (g.B.Bus.means l.initial.bus) (image_data l.image))
+    (put_data g.B.Bus.rules (g.B.Bus.means l.bus) (data_of (lines_of (drop l.place l.image))) ≡ put_data g.B.Bus.rules (g.B.Bus.means l.initial.bus) (image_data l.image))
     × Placed g.B.Bus.rules (g.B.Bus.means l.bus) (data_of (lines_of (drop l.place l.image)))
     × (l.place ≤ length l.image)
 

@@ -5,7 +5,6 @@ use Rattle.board.proofs.machine.Board.power.Goals as goal
 
 pub returns : goal.returns
 returns g c = record {
-  sound = search rules;
   state = search rules;
   aligned = subst Aligned (sym c.new.ensures.state) (reset_aligned c.args.config c.args.registers);
 }
