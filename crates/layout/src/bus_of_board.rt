@@ -1,9 +1,8 @@
 // The bus: RAM of 4096 bytes behind a cache, then the timer on line 0, and the port with room for 64 bytes.
 ghost use Rattle.std.specs.Prelude.{◌≡◌, replicate, IfOk};
 ghost use Rattle.layout.specs.Meaning.{first_meaning};
-ghost use Rattle.layout.specs.Parts.{meant, Sound};
 
-use bus::{Cache, Fork, Port, Ram, Timer};
+use bus::{Bus, Cache, Fork, Port, Ram, Timer};
 use std::alloc::{AllocError, Global};
 
 pub type BoardBus = Fork<Cache<Ram>, Fork<Timer, Port>>;
@@ -12,7 +11,7 @@ const MEMORY: usize = 4096;
 
 // The bus as it is first, its memory all zero.
 pub fn board_bus(heap: Global) -> Result<BoardBus, AllocError>
-    ensures meaning { IfOk result (λ b. meant b ≡ first_meaning (replicate 4096 0)) }
+    ensures meaning { IfOk result (λ b. ⟦<BoardBus as Bus>⟧.means b ≡ first_meaning (replicate 4096 0)) }
 {
     let bytes = vec![in heap; 0; MEMORY]?;
     let devices = Fork::new(Timer::new(0), Port::new(heap, 64)?, 16);

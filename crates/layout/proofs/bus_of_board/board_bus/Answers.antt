@@ -1,14 +1,11 @@
-use Rattle.std.proofs.Common.{◌≡◌, replicate, vec_items, sym, ap, ◌∙◌, subst}
+use Rattle.std.proofs.Common.{◌≡◌, replicate, vec_items, ap, ◌∙◌}
 use Rattle.std.proofs.lemmas.Result.{IfOk-from_err}
-use Rattle.bus.specs.Block.{ram_rules}
-use Rattle.bus.specs.Cache.{Right}
 use Rattle.layout.proofs.First.{same_board}
 use Rattle.layout.proofs.bus_of_board.board_bus.Goals as goal
 
 pub returns-in_err-new : goal.returns-in_err-new
 returns-in_err-new c = record {
   meaning = IfOk-from_err c.from_residual-in_err-new.result _ c.from_residual-in_err-new.ensures.0;
-  sound = IfOk-from_err c.from_residual-in_err-new.result _ c.from_residual-in_err-new.ensures.0;
 }
 
 pub returns : goal.returns
@@ -22,7 +19,6 @@ returns c =
     let memory : vec_items bus.low.below.bytes ≡ replicate 4096 0 =
     ap (λ l. vec_items l.below.bytes) made-bus.low ∙ ap (λ b. vec_items b.bytes) cache.below ∙ c.new-3.ensures.meaning
     ∙ c.in_ok-bytes.ensures.items_if_clones_equal (λ y e. e) in
-    let held : Right ram_rules (vec_items c.new-3.result.bytes) c.new-4.result.lines = cache.right in
     record {
       meaning =
           same_board made-bus.split memory
@@ -33,12 +29,4 @@ returns c =
           (ap (λ h. h.high.registers) made-bus.high ∙ ap (λ t. t.registers) devices.high ∙ port.0)
           (ap (λ h. vec_items h.high.gone) made-bus.high ∙ ap (λ t. vec_items t.gone) devices.high ∙ port.1)
           (ap (λ h. h.high.room) made-bus.high ∙ ap (λ t. t.room) devices.high ∙ port.2);
-      sound = (
-        (
-          tt,
-          subst (λ l. Right ram_rules (vec_items l.below.bytes) l.lines) (sym made-bus.low)
-              (subst (λ b. Right ram_rules (vec_items b.bytes) c.new-4.result.lines) (sym cache.below) held),
-        ),
-        (tt, tt),
-      );
     }
