@@ -5,6 +5,7 @@ pub mod Data
 pub mod Execute
 pub mod Load
 pub mod Machine
+pub mod Ready
 pub mod Run
 pub mod Step
 pub mod Writers

@@ -3,6 +3,7 @@ ghost use Rattle.std.specs.Prelude.{◌≡◌, ◌%◌, ◌==◌};
 ghost use Rattle.board.specs.Execute.{aligned, barred, register_result, raised, executed};
 ghost use Rattle.bus.specs.Bytes.{width};
 ghost use Rattle.board.specs.Machine.{seen, or_stay, told};
+ghost use Rattle.board.specs.Ready.{allowed};
 
 use crate::access::{data_address, load_size, store_size};
 use crate::machine::Board;
@@ -44,17 +45,17 @@ fn is_aligned(processor: &Processor, instruction: Instruction) -> bool
     }
 }
 
-// What stops an instruction before it does anything.
-pub(crate) fn find_bar(processor: &Processor, instruction: Instruction) -> Option<Stop>
-    ensures { result ≡ barred processor.now instruction }
+// Whether an instruction may be done, or what stops it before it does anything.
+pub(crate) fn allow(processor: &Processor, instruction: Instruction) -> Result<(), Stop>
+    ensures { result ≡ allowed (barred processor.now instruction) }
 {
     if !processor.has_configured(instruction) {
-        return Some(Stop::NotConfigured);
+        return Err(Stop::NotConfigured);
     }
     if !is_aligned(processor, instruction) {
-        return Some(Stop::Misaligned);
+        return Err(Stop::Misaligned);
     }
-    None
+    Ok(())
 }
 
 fn compute_register(op: RegisterOp, x: u32, y: u32) -> Result<u32, Trouble>

@@ -4,6 +4,7 @@
 pub mod access;
 pub mod calls;
 pub mod execute;
+mod halt;
 pub mod load;
 pub mod machine;
 pub mod refusals;

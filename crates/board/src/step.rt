@@ -6,10 +6,12 @@ ghost use Rattle.board.specs.Alignment.{Aligned};
 ghost use Rattle.board.specs.Counter.{counter_after, UnchangedByStop};
 ghost use Rattle.board.specs.Execute.{executed};
 ghost use Rattle.board.specs.Machine.{seen, machine};
+ghost use Rattle.board.specs.Ready.{concluded};
 ghost use Rattle.board.specs.Writers.{WritesOnly};
 ghost use Rattle.board.specs.Step.{pend, noted, departed, takes, stops, if_decoded, if_executed, settled, fetched, stepped};
 
-use crate::execute::find_bar;
+use crate::execute::allow;
+use crate::halt::{Halt, Ready};
 use crate::machine::Board;
 use bus::{Bus, Size};
 use cpu::{Answer, Config, Exception, Processor, Stop, Trouble};
@@ -42,25 +44,6 @@ impl<B: Bus> Board<B> {
         self.bus.tick();
     }
 
-    // Breaks off at the PC, with the pending lines remembered, and ends the step.
-    fn take(&mut self, lines: u32, exception: Exception) -> Answer
-        requires lines { lines ≡ pend B.Bus.rules (seen B.Bus.means self.old) }
-        ensures state { seen B.Bus.means self.new ≡ (takes B.Bus.rules (seen B.Bus.means self.old) exception).1 }
-        ensures answer { result ≡ (takes B.Bus.rules (seen B.Bus.means self.old) exception).0 }
-    {
-        self.processor.remember(lines);
-        self.depart(exception)
-    }
-
-    fn stop(&self, stop: Stop) -> Answer
-        ensures { result ≡ (stops B.Bus.rules (seen B.Bus.means self.now) stop).0 }
-    {
-        Answer::Stopped {
-            stop,
-            pc: self.processor.pc(),
-        }
-    }
-
     fn fetch(&mut self) -> Result<u32, Trouble>
         ensures state { seen B.Bus.means self.new ≡ seen B.Bus.means self.old }
         ensures answer { result ≡ fetched B.Bus.rules (seen B.Bus.means self.old) }
@@ -69,35 +52,22 @@ impl<B: Bus> Board<B> {
         Ok(word)
     }
 
-    // A fetched word: decoded, checked and done, or what else the step comes to.
-    fn perform(&mut self, lines: u32, word: u32) -> Answer
-        requires lines { lines ≡ pend B.Bus.rules (seen B.Bus.means self.old) }
-        ensures state { seen B.Bus.means self.new ≡ (if_decoded B.Bus.rules (seen B.Bus.means self.old) word (decoded word)).1 }
-        ensures answer { result ≡ (if_decoded B.Bus.rules (seen B.Bus.means self.old) word (decoded word)).0 }
+    // The instruction at PC, where nothing halts the step before it.
+    fn ready(&mut self, lines: u32) -> Result<Ready, Halt>
+        requires { lines ≡ pend B.Bus.rules (seen B.Bus.means self.old) }
+        ensures state { seen B.Bus.means self.new ≡ seen B.Bus.means self.old }
+        ensures step { concluded B.Bus.rules (seen B.Bus.means self.old) result ≡ stepped B.Bus.rules (seen B.Bus.means self.old) }
     {
-        let Ok(instruction) = Instruction::decode(word) else {
-            return self.stop(Stop::Reserved);
-        };
-        if let Some(bar) = find_bar(&self.processor, instruction) {
-            return self.stop(bar);
+        if let Some(index) = self.processor.breakpoint() {
+            return Err(Exception::Breakpoint(Some(index)).into());
         }
-        self.complete(lines, word, instruction)
-    }
-
-    // An instruction that nothing bars.
-    fn complete(&mut self, lines: u32, word: u32, instruction: Instruction) -> Answer
-        requires lines { lines ≡ pend B.Bus.rules (seen B.Bus.means self.old) }
-        ensures state { seen B.Bus.means self.new ≡ (if_executed B.Bus.rules (seen B.Bus.means self.old) word (executed B.Bus.rules (noted B.Bus.rules (seen B.Bus.means self.old)) instruction)).1 }
-        ensures answer { result ≡ (if_executed B.Bus.rules (seen B.Bus.means self.old) word (executed B.Bus.rules (noted B.Bus.rules (seen B.Bus.means self.old)) instruction)).0 }
-    {
-        self.processor.remember(lines);
-        match self.execute(instruction) {
-            Ok(()) => {
-                self.settle();
-                Answer::Done(word)
-            }
-            Err(trouble) => self.depart(trouble.while_executing()),
+        if let Some(line) = self.processor.interrupt(lines) {
+            return Err(Exception::Interrupt(line).into());
         }
+        let word = self.fetch().map_err(|trouble| trouble.while_fetching())?;
+        let instruction = Instruction::decode(word)?;
+        allow(&self.processor, instruction)?;
+        Ok(Ready { word, instruction })
     }
 
     // Breaks off at the PC and ends the step.
@@ -116,15 +86,25 @@ impl<B: Bus> Board<B> {
         ensures answer { result ≡ (stepped B.Bus.rules (seen B.Bus.means self.old)).0 }
     {
         let lines = self.processor.pending(self.bus.lines());
-        if let Some(index) = self.processor.breakpoint() {
-            return self.take(lines, Exception::Breakpoint(Some(index)));
-        }
-        if let Some(line) = self.processor.interrupt(lines) {
-            return self.take(lines, Exception::Interrupt(line));
-        }
-        match self.fetch() {
-            Ok(word) => self.perform(lines, word),
-            Err(trouble) => self.take(lines, trouble.while_fetching()),
+        match self.ready(lines) {
+            Ok(ready) => {
+                self.processor.remember(lines);
+                match self.execute(ready.instruction) {
+                    Ok(()) => {
+                        self.settle();
+                        Answer::Done(ready.word)
+                    }
+                    Err(trouble) => self.depart(trouble.while_executing()),
+                }
+            }
+            Err(Halt::Exception(exception)) => {
+                self.processor.remember(lines);
+                self.depart(exception)
+            }
+            Err(Halt::Stop(stop)) => Answer::Stopped {
+                stop,
+                pc: self.processor.pc(),
+            },
         }
     }
 
