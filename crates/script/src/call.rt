@@ -21,5 +21,5 @@ pub enum Reply {
     Look(Result<u8, Fault>),
     Show(Result<u32, ShowRefused>),
     Step(Answer),
-    Run(u32, u32, u32),
+    Run { done: u32, taken: u32, ending: u32 },
 }

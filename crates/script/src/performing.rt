@@ -21,7 +21,11 @@ pub fn perform<B: Bus>(board: &mut Board<B>, call: Call<'_>) -> Reply
         Call::Step => Reply::Step(board.step()),
         Call::Run(budget) => {
             let (done, taken, ending) = board.run(budget);
-            Reply::Run(done, taken, ending)
+            Reply::Run {
+                done,
+                taken,
+                ending,
+            }
         }
     }
 }
