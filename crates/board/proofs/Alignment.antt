@@ -1,13 +1,10 @@
 -- Power gives an aligned processor, and a step keeps it so. Assumes nothing.
-use Rattle.std.proofs.Common.{◌≡◌, ℕ, ◌+◌, ◌*◌, ◌%◌, ◌^◌, Bool, true, false, cond, List, Ok, Err, Result, refl, ap, ◌∙◌, subst, arith}
+use Rattle.std.proofs.Common.{◌≡◌, ℕ, ◌+◌, ◌*◌, ◌%◌, ◌^◌, Bool, true, false, cond, List, Ok, refl, ap, ◌∙◌, arith}
 use Rattle.isa.specs.declared.instruction.Instruction.{Instruction}
 use Rattle.isa.specs.declared.operation.JumpOp.{JumpOp}
 use Rattle.isa.specs.declared.operation.JumpOp.TheVariants.{B, Call}
-use Rattle.isa.specs.declared.operation.LoadOp.{LoadOp}
-use Rattle.isa.specs.declared.register.Register.{Register}
 use Rattle.alu.specs.Compare.{branches}
 use Rattle.bus.specs.Rules.{Rules}
-use Rattle.bus.specs.declared.fault.Fault.{Fault}
 use Rattle.cpu.specs.Config.{debugs}
 use Rattle.cpu.specs.Csr.{csr_named, configured_breakpoint, status_written}
 use Rattle.cpu.specs.Entry.{base}
@@ -19,11 +16,11 @@ use Rattle.cpu.specs.declared.csr.Csr.{Csr}
 use Rattle.cpu.specs.declared.csr.Csr.TheVariants.{Ie, Im, Ip, Cc, Cfg, Eba, Dc, Deba, Breakpoint, Other}
 use Rattle.cpu.specs.declared.processor.Processor.{Processor}
 use Rattle.cpu.specs.declared.processor.Status.{Status}
-use Rattle.cpu.specs.declared.reason.Trouble.{Trouble}
 use Rattle.board.specs.Alignment.{Aligned}
-use Rattle.board.specs.Execute.{executed, put, after_load, after_store}
+use Rattle.board.specs.Execute.{executed}
 use Rattle.board.specs.Machine.{Machine}
 use Rattle.board.specs.Step.{noted, stepped}
+use Rattle.board.proofs.Executed.{after_done}
 use Rattle.board.proofs.StepCases.{step_cases}
 
 base_aligned : (v : ℕ) → base_of v % 256 ≡ 0
@@ -74,10 +71,6 @@ linked_status : (op : JumpOp) (p : Processor) → (linked op p).status ≡ p.sta
 linked_status B p = refl
 linked_status Call p = refl
 
-AlignedIf : {M : Type 0} → Result (Machine M) Trouble → Type 0
-AlignedIf (Ok t) = Aligned t.cpu
-AlignedIf (Err e) = Unit {0}
-
 module _ {M : Type 0} (r : Rules M) (s : Machine M) (h : Aligned s.cpu) where
   next : (q : Processor) → q.pc ≡ following s.cpu.pc → q.status.eba ≡ s.cpu.status.eba → q.status.deba ≡ s.cpu.status.deba → Aligned q
   next q e f k = record {
@@ -86,46 +79,23 @@ module _ {M : Type 0} (r : Rules M) (s : Machine M) (h : Aligned s.cpu) where
     deba = ap (λ x. x % 256) k ∙ h.deba;
   }
 
-  loading : (op : LoadOp) (to : Register) (x : Result ℕ Fault) → AlignedIf (after_load s op to x)
-  unfolding AlignedIf
-  loading op to (Ok v) = next _ refl refl refl
-  loading op to (Err f) = tt
-
-  storing : (m : M) (x : Result (Unit {0}) Fault) → AlignedIf (after_store s m x)
-  unfolding AlignedIf
-  storing m (Ok v) = next _ refl refl refl
-  storing m (Err f) = tt
-
-  putting : (to : Register) (x : Result ℕ Trouble) → AlignedIf (put s to x)
-  unfolding AlignedIf
-  putting to (Ok v) = next _ refl refl refl
-  putting to (Err t) = tt
-
-  executing : (i : Instruction) → AlignedIf (executed r s i)
-  unfolding AlignedIf
-  executing (Instruction.Immediate op from value to) = next _ refl refl refl
-  executing (Instruction.ShiftImmediate op from amount to) = next _ refl refl refl
-  executing (Instruction.Load op base offset to) = loading op to _
-  executing (Instruction.Store op base offset from) = storing _ _
-  executing (Instruction.Branch op left right offset) =
+  done_aligned : (i : Instruction) (t : Machine M) → executed r s i ≡ Ok t → Aligned t.cpu
+  done_aligned =
+      after_done r s (λ i p. Aligned p) (λ i to v d. next _ refl refl refl) (λ i. next _ refl refl refl)
+      (λ op left right offset.
       either_aligned (branches op (reg s.cpu left) (reg s.cpu right)) _ _
-      (record { pc = reached_aligned s.cpu.pc _ h.pc; eba = h.eba; deba = h.deba }) (next _ refl refl refl)
-  executing (Instruction.Register op left right to) = putting to _
-  executing (Instruction.Extend op from to) = next _ refl refl refl
-  executing (Instruction.Jump op target) = record { pc = omega arith; eba = h.eba; deba = h.deba }
-  executing (Instruction.JumpOffset op offset) = record {
-    pc = reached_aligned s.cpu.pc _ h.pc;
-    eba = ap (λ x. x.eba % 256) (linked_status op s.cpu) ∙ h.eba;
-    deba = ap (λ x. x.deba % 256) (linked_status op s.cpu) ∙ h.deba;
-  }
-  executing (Instruction.ReadCsr csr to) = next _ refl refl refl
-  executing (Instruction.WriteCsr csr from) =
+          (record { pc = reached_aligned s.cpu.pc _ h.pc; eba = h.eba; deba = h.deba }) (next _ refl refl refl))
+      (λ op target. record { pc = omega arith; eba = h.eba; deba = h.deba })
+      (λ op offset. record {
+        pc = reached_aligned s.cpu.pc _ h.pc;
+        eba = ap (λ x. x.eba % 256) (linked_status op s.cpu) ∙ h.eba;
+        deba = ap (λ x. x.deba % 256) (linked_status op s.cpu) ∙ h.deba;
+      })
+      (λ csr from.
       let bases = written_bases s.cpu (csr_named csr.number) (reg s.cpu from) (record { eba = h.eba; deba = h.deba }) in
-      record { pc = next_aligned s.cpu.pc h.pc; eba = bases.eba; deba = bases.deba }
-  executing (Instruction.Raise op) = tt
+      record { pc = next_aligned s.cpu.pc h.pc; eba = bases.eba; deba = bases.deba })
 
 pub step_aligned : {M : Type 0} (r : Rules M) (s : Machine M) → Aligned s.cpu → Aligned (stepped r s).1.cpu
-unfolding AlignedIf
 step_aligned r s h =
     let noted-aligned : Aligned (noted r s).cpu = record { pc = h.pc; eba = h.eba; deba = h.deba } in
     step_cases r s (λ a. Aligned a.1.cpu)
@@ -136,5 +106,5 @@ step_aligned r s h =
     })
     (λ why. h)
     (λ w i t d e.
-    let done : Aligned t.cpu = subst AlignedIf e (executing r (noted r s) noted-aligned i) in
+    let done : Aligned t.cpu = done_aligned r (noted r s) noted-aligned i t e in
     record { pc = done.pc; eba = done.eba; deba = done.deba })

@@ -1,5 +1,6 @@
 pub mod Alignment
 pub mod Counter
+pub mod Executed
 pub mod Inversion
 pub mod Loading
 pub mod Runs

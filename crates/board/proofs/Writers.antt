@@ -1,14 +1,12 @@
 -- A step writes only what it is said to write. Assumes nothing.
-use Rattle.std.proofs.Common.{◌≡◌, ℕ, zero, suc, Bool, true, false, cond, not, ◌&&◌, eqb, List, [], ◌∷◌, length, get_or, drop, set, Some, Ok, Err, Result, sym, refl, ap, ◌∙◌, subst, arith, length-set, get_or-set_other}
+use Rattle.std.proofs.Common.{◌≡◌, ℕ, zero, suc, Bool, true, false, cond, not, ◌&&◌, eqb, List, [], ◌∷◌, length, get_or, drop, set, Some, Ok, sym, refl, ap, ◌∙◌, arith, length-set, get_or-set_other}
 use Rattle.std.proofs.lemmas.Bool.{eqb-false, not-true, and_parts}
 use Rattle.isa.specs.declared.instruction.Instruction.{Instruction}
 use Rattle.isa.specs.declared.operation.JumpOp.{JumpOp}
 use Rattle.isa.specs.declared.operation.JumpOp.TheVariants.{B, Call}
-use Rattle.isa.specs.declared.operation.LoadOp.{LoadOp}
 use Rattle.isa.specs.declared.register.Register.{Register}
 use Rattle.alu.specs.Compare.{branches}
 use Rattle.bus.specs.Rules.{Rules}
-use Rattle.bus.specs.declared.fault.Fault.{Fault}
 use Rattle.cpu.specs.Csr.{csrs, csr_named, configured_breakpoint, status_written}
 use Rattle.cpu.specs.Config.{debugs}
 use Rattle.cpu.specs.Enable.{saved_by_exception, saved_by_breakpoint}
@@ -21,10 +19,10 @@ use Rattle.cpu.specs.declared.csr.Csr.TheVariants.{Ie, Im, Ip, Cc, Cfg, Eba, Dc,
 use Rattle.cpu.specs.declared.enable.Enable.{Enable}
 use Rattle.cpu.specs.declared.processor.Processor.{Processor}
 use Rattle.cpu.specs.declared.processor.Status.{Status}
-use Rattle.cpu.specs.declared.reason.Trouble.{Trouble}
-use Rattle.board.specs.Execute.{executed, put, after_load, after_store}
+use Rattle.board.specs.Execute.{executed}
 use Rattle.board.specs.Machine.{Machine}
 use Rattle.board.specs.Step.{noted, stepped}
+use Rattle.board.proofs.Executed.{after_done}
 use Rattle.board.proofs.StepCases.{step_cases}
 use Rattle.board.specs.Writers.{link_register, destination, writes_ie, is_register, destination_is, word_writes_ie, WritesOnly}
 
@@ -37,10 +35,6 @@ record Keeps (i : Instruction) (p q : Processor) : Type 0 where
   size : length q.registers ≡ length p.registers
   eie : writes_ie i ≡ false → q.status.enable.eie ≡ p.status.enable.eie
   bie : writes_ie i ≡ false → q.status.enable.bie ≡ p.status.enable.bie
-
-KeepsIf : {M : Type 0} → Instruction → Processor → Result (Machine M) Trouble → Type 0
-KeepsIf i p (Ok t) = Keeps i p t.cpu
-KeepsIf i p (Err e) = Unit {0}
 
 eie_either : (b : Bool) (x y : Enable) (v : Bool) → x.eie ≡ v → y.eie ≡ v → (cond b x y).eie ≡ v
 eie_either true x y v e f = e
@@ -144,56 +138,31 @@ bie_saved : (b : Bool) (x : Enable) → b ≡ false → (cond b (saved_by_breakp
 bie_saved true x h = let z : ◌≡◌ {A = ℕ} 0 1 = cc in absurd (omega arith)
 bie_saved false x h = refl
 
-module _ {M : Type 0} (r : Rules M) (s : Machine M) where
-  loading : (op : LoadOp) (base : Register) (offset : ℕ) (to : Register) (x : Result ℕ Fault) →
-      KeepsIf (Instruction.Load op base offset to) s.cpu (after_load s op to x)
-  unfolding KeepsIf
-  loading op base offset to (Ok v) = put_keeps _ s.cpu _ to.number _ refl refl refl
-  loading op base offset to (Err f) = tt
-
-  storing : (i : Instruction) (m : M) (x : Result (Unit {0}) Fault) → KeepsIf i s.cpu (after_store s m x)
-  unfolding KeepsIf
-  storing i m (Ok v) = same_keeps i s.cpu _ refl refl
-  storing i m (Err f) = tt
-
-  putting : (i : Instruction) (to : Register) (x : Result ℕ Trouble) → destination i ≡ Some to.number → KeepsIf i s.cpu (put s to x)
-  unfolding KeepsIf
-  putting i to (Ok v) d = put_keeps i s.cpu _ to.number _ d refl refl
-  putting i to (Err t) d = tt
-
-  executing : (i : Instruction) → KeepsIf i s.cpu (executed r s i)
-  unfolding KeepsIf
-  executing (Instruction.Immediate op from value to) = put_keeps _ s.cpu _ to.number _ refl refl refl
-  executing (Instruction.ShiftImmediate op from amount to) = put_keeps _ s.cpu _ to.number _ refl refl refl
-  executing (Instruction.Load op base offset to) = loading op base offset to _
-  executing (Instruction.Store op base offset from) = storing (Instruction.Store op base offset from) _ _
-  executing (Instruction.Branch op left right offset) =
-      either_keeps _ (branches op (reg s.cpu left) (reg s.cpu right)) s.cpu _ _ (same_keeps _ s.cpu _ refl refl) (same_keeps _ s.cpu _ refl refl)
-  executing (Instruction.Register op left right to) = putting (Instruction.Register op left right to) to _ refl
-  executing (Instruction.Extend op from to) = put_keeps _ s.cpu _ to.number _ refl refl refl
-  executing (Instruction.Jump op target) = record {
-    registers = linked_registers op s.cpu;
-    size = linked_size op s.cpu;
-    eie = λ _. returned_eie op target s.cpu.status.enable;
-    bie = λ _. returned_bie op target s.cpu.status.enable;
-  }
-  executing (Instruction.JumpOffset op offset) = record {
-    registers = linked_registers op s.cpu;
-    size = linked_size op s.cpu;
-    eie = λ _. ap (λ x. x.eie) (linked_enable op s.cpu);
-    bie = λ _. ap (λ x. x.bie) (linked_enable op s.cpu);
-  }
-  executing (Instruction.ReadCsr csr to) = put_keeps _ s.cpu _ to.number _ refl refl refl
-  executing (Instruction.WriteCsr csr from) = record {
-    registers = λ n e. refl;
-    size = refl;
-    eie = λ e. ap (λ x. x.eie) (csr_enable s.cpu csr.number (reg s.cpu from) e);
-    bie = λ e. ap (λ x. x.bie) (csr_enable s.cpu csr.number (reg s.cpu from) e);
-  }
-  executing (Instruction.Raise op) = tt
+done_keeps : {M : Type 0} (r : Rules M) (s : Machine M) (i : Instruction) (t : Machine M) → executed r s i ≡ Ok t → Keeps i s.cpu t.cpu
+done_keeps r s =
+    after_done r s (λ i p. Keeps i s.cpu p) (λ i to v d. put_keeps i s.cpu _ to.number _ d refl refl) (λ i. same_keeps i s.cpu _ refl refl)
+    (λ op left right offset.
+    either_keeps _ (branches op (reg s.cpu left) (reg s.cpu right)) s.cpu _ _ (same_keeps _ s.cpu _ refl refl) (same_keeps _ s.cpu _ refl refl))
+    (λ op target. record {
+      registers = linked_registers op s.cpu;
+      size = linked_size op s.cpu;
+      eie = λ _. returned_eie op target s.cpu.status.enable;
+      bie = λ _. returned_bie op target s.cpu.status.enable;
+    })
+    (λ op offset. record {
+      registers = linked_registers op s.cpu;
+      size = linked_size op s.cpu;
+      eie = λ _. ap (λ x. x.eie) (linked_enable op s.cpu);
+      bie = λ _. ap (λ x. x.bie) (linked_enable op s.cpu);
+    })
+    (λ csr from. record {
+      registers = λ n e. refl;
+      size = refl;
+      eie = λ e. ap (λ x. x.eie) (csr_enable s.cpu csr.number (reg s.cpu from) e);
+      bie = λ e. ap (λ x. x.bie) (csr_enable s.cpu csr.number (reg s.cpu from) e);
+    })
 
 pub step_writes : {M : Type 0} (r : Rules M) (s : Machine M) → WritesOnly (stepped r s).0 s.cpu (stepped r s).1.cpu
-unfolding KeepsIf
 step_writes r s =
     step_cases r s (λ a. WritesOnly a.0 s.cpu a.1.cpu)
     (λ e. record {
@@ -203,7 +172,7 @@ step_writes r s =
     })
     (λ why. record { registers = λ n h. refl; eie = λ h. refl; bie = λ h. refl })
     (λ w i t d e.
-    let kept : Keeps i (noted r s).cpu t.cpu = subst (KeepsIf i (noted r s).cpu) e (executing r (noted r s) i) in
+    let kept : Keeps i (noted r s).cpu t.cpu = done_keeps r (noted r s) i t e in
     record {
       registers = λ n h. kept.registers n (sym (ap (destination_is n) d) ∙ h);
       eie = λ h. kept.eie (sym (ap word_writes_ie d) ∙ h);
@@ -212,11 +181,10 @@ step_writes r s =
 
 -- a step keeps the number of registers
 pub step_size : {M : Type 0} (r : Rules M) (s : Machine M) → length (stepped r s).1.cpu.registers ≡ length s.cpu.registers
-unfolding KeepsIf
 step_size r s =
     step_cases r s (λ a. length a.1.cpu.registers ≡ length s.cpu.registers)
     (λ e. length-set s.cpu.registers (saved_in e) _)
     (λ why. refl)
     (λ w i t d e.
-    let kept : Keeps i (noted r s).cpu t.cpu = subst (KeepsIf i (noted r s).cpu) e (executing r (noted r s) i) in
+    let kept : Keeps i (noted r s).cpu t.cpu = done_keeps r (noted r s) i t e in
     kept.size)
