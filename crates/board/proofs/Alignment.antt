@@ -1,5 +1,6 @@
 -- Power gives an aligned processor, and a step keeps it so. Assumes nothing.
-use Rattle.std.proofs.Common.{◌≡◌, ℕ, ◌+◌, ◌*◌, ◌%◌, ◌^◌, Bool, true, false, cond, List, Ok, refl, ap, ◌∙◌, arith}
+use Rattle.std.proofs.Common.{◌≡◌, ℕ, ◌+◌, ◌*◌, ◌%◌, ◌^◌, List, Ok, refl, ap, ◌∙◌, arith}
+use Rattle.std.proofs.lemmas.Bool.{cond_both}
 use Rattle.isa.specs.declared.instruction.Instruction.{Instruction}
 use Rattle.isa.specs.declared.operation.JumpOp.{JumpOp}
 use Rattle.isa.specs.declared.operation.JumpOp.TheVariants.{B, Call}
@@ -35,10 +36,6 @@ next_aligned pc h = omega arith
 reached_aligned : (pc offset : ℕ) → pc % 4 ≡ 0 → reached pc offset % 4 ≡ 0
 reached_aligned pc offset h = omega arith
 
-either_base : (b : Bool) (x y : ℕ) → x % 256 ≡ 0 → y % 256 ≡ 0 → cond b x y % 256 ≡ 0
-either_base true x y e f = e
-either_base false x y e f = f
-
 handler_aligned : (b n : ℕ) → b % 256 ≡ 0 → (b + 32 * n) % 2 ^ 32 % 4 ≡ 0
 handler_aligned b n h = omega arith
 
@@ -47,10 +44,6 @@ record Bases (s : Status) : Type 0 where
   eba : s.eba % 256 ≡ 0
   deba : s.deba % 256 ≡ 0
 
-either_bases : (b : Bool) (x y : Status) → Bases x → Bases y → Bases (cond b x y)
-either_bases true x y e f = e
-either_bases false x y e f = f
-
 written_bases : (p : Processor) (c : Csr) (v : ℕ) → Bases p.status → Bases (status_written p c v)
 written_bases p Ie v h = record { eba = h.eba; deba = h.deba }
 written_bases p Im v h = record { eba = h.eba; deba = h.deba }
@@ -58,14 +51,10 @@ written_bases p Ip v h = record { eba = h.eba; deba = h.deba }
 written_bases p Cc v h = h
 written_bases p Cfg v h = h
 written_bases p Eba v h = record { eba = base_aligned v; deba = h.deba }
-written_bases p Dc v h = either_bases (debugs p.config) _ _ (record { eba = h.eba; deba = h.deba }) h
-written_bases p Deba v h = either_bases (debugs p.config) _ _ (record { eba = h.eba; deba = base_aligned v }) h
-written_bases p (Breakpoint k) v h = either_bases (configured_breakpoint p.config k) _ _ (record { eba = h.eba; deba = h.deba }) h
+written_bases p Dc v h = cond_both (debugs p.config) _ _ Bases (λ _. record { eba = h.eba; deba = h.deba }) (λ _. h)
+written_bases p Deba v h = cond_both (debugs p.config) _ _ Bases (λ _. record { eba = h.eba; deba = base_aligned v }) (λ _. h)
+written_bases p (Breakpoint k) v h = cond_both (configured_breakpoint p.config k) _ _ Bases (λ _. record { eba = h.eba; deba = h.deba }) (λ _. h)
 written_bases p Other v h = h
-
-either_aligned : (b : Bool) (x y : Processor) → Aligned x → Aligned y → Aligned (cond b x y)
-either_aligned true x y e f = e
-either_aligned false x y e f = f
 
 linked_status : (op : JumpOp) (p : Processor) → (linked op p).status ≡ p.status
 linked_status B p = refl
@@ -83,8 +72,8 @@ module _ {M : Type 0} (r : Rules M) (s : Machine M) (h : Aligned s.cpu) where
   done_aligned =
       after_done r s (λ i p. Aligned p) (λ i to v d. next _ refl refl refl) (λ i. next _ refl refl refl)
       (λ op left right offset.
-      either_aligned (branches op (reg s.cpu left) (reg s.cpu right)) _ _
-          (record { pc = reached_aligned s.cpu.pc _ h.pc; eba = h.eba; deba = h.deba }) (next _ refl refl refl))
+      cond_both (branches op (reg s.cpu left) (reg s.cpu right)) _ _ Aligned
+          (λ _. record { pc = reached_aligned s.cpu.pc _ h.pc; eba = h.eba; deba = h.deba }) (λ _. next _ refl refl refl))
       (λ op target. record { pc = omega arith; eba = h.eba; deba = h.deba })
       (λ op offset. record {
         pc = reached_aligned s.cpu.pc _ h.pc;
@@ -100,7 +89,7 @@ step_aligned r s h =
     let noted-aligned : Aligned (noted r s).cpu = record { pc = h.pc; eba = h.eba; deba = h.deba } in
     step_cases r s (λ a. Aligned a.1.cpu)
     (λ e. record {
-      pc = handler_aligned (base (noted r s).cpu e) (exception_number e) (either_base _ _ _ h.deba h.eba);
+      pc = handler_aligned (base (noted r s).cpu e) (exception_number e) (cond_both _ _ _ (λ v. v % 256 ≡ 0) (λ _. h.deba) (λ _. h.eba));
       eba = h.eba;
       deba = h.deba;
     })

@@ -1,5 +1,6 @@
 -- The counter over one step, and that a stop leaves the machine as it was. Assumes nothing.
-use Rattle.std.proofs.Common.{◌≡◌, ℕ, ◌+◌, ◌%◌, ◌^◌, Bool, true, false, cond, Ok, refl, ap}
+use Rattle.std.proofs.Common.{◌≡◌, ℕ, ◌+◌, ◌%◌, ◌^◌, Ok, refl, ap}
+use Rattle.std.proofs.lemmas.Bool.{cond_both}
 use Rattle.isa.specs.declared.instruction.Instruction.{Instruction}
 use Rattle.isa.specs.declared.operation.JumpOp.{JumpOp}
 use Rattle.isa.specs.declared.operation.JumpOp.TheVariants.{B, Call}
@@ -26,14 +27,6 @@ pub record Counted {M : Type 0} (s : Machine M) (a : Answer × Machine M) : Type
   pub grows : a.1.cpu.status.cc ≡ counter_after a.0 s.cpu.status.cc
   pub stays : UnchangedByStop a.0 s a.1
 
-either_way : (b : Bool) (x y : Processor) (n : ℕ) → x.status.cc ≡ n → y.status.cc ≡ n → (cond b x y).status.cc ≡ n
-either_way true x y n e f = e
-either_way false x y n e f = f
-
-either_status : (b : Bool) (x y : Status) (n : ℕ) → x.cc ≡ n → y.cc ≡ n → (cond b x y).cc ≡ n
-either_status true x y n e f = e
-either_status false x y n e f = f
-
 linked_cc : (op : JumpOp) (p : Processor) → (linked op p).status.cc ≡ p.status.cc
 linked_cc B p = refl
 linked_cc Call p = refl
@@ -46,16 +39,16 @@ written_cc p Ip v = refl
 written_cc p Cc v = refl
 written_cc p Cfg v = refl
 written_cc p Eba v = refl
-written_cc p Dc v = either_status (debugs p.config) _ _ _ refl refl
-written_cc p Deba v = either_status (debugs p.config) _ _ _ refl refl
-written_cc p (Breakpoint k) v = either_status (configured_breakpoint p.config k) _ _ _ refl refl
+written_cc p Dc v = cond_both (debugs p.config) _ _ (λ (x : Status). x.cc ≡ p.status.cc) (λ _. refl) (λ _. refl)
+written_cc p Deba v = cond_both (debugs p.config) _ _ (λ (x : Status). x.cc ≡ p.status.cc) (λ _. refl) (λ _. refl)
+written_cc p (Breakpoint k) v = cond_both (configured_breakpoint p.config k) _ _ (λ (x : Status). x.cc ≡ p.status.cc) (λ _. refl) (λ _. refl)
 written_cc p Other v = refl
 
 -- an instruction that is done leaves the counter as it was
 done_cc : {M : Type 0} (r : Rules M) (s : Machine M) (i : Instruction) (t : Machine M) → executed r s i ≡ Ok t → t.cpu.status.cc ≡ s.cpu.status.cc
 done_cc r s =
     after_done r s (λ i p. p.status.cc ≡ s.cpu.status.cc) (λ i to v d. refl) (λ i. refl)
-    (λ op left right offset. either_way (branches op (reg s.cpu left) (reg s.cpu right)) _ _ _ refl refl)
+    (λ op left right offset. cond_both (branches op (reg s.cpu left) (reg s.cpu right)) _ _ (λ (p : Processor). p.status.cc ≡ s.cpu.status.cc) (λ _. refl) (λ _. refl))
     (λ op target. refl) (λ op offset. linked_cc op s.cpu)
     (λ csr from. written_cc s.cpu (csr_named csr.number) (reg s.cpu from))
 

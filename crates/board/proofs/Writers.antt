@@ -1,6 +1,6 @@
 -- A step writes only what it is said to write. Assumes nothing.
 use Rattle.std.proofs.Common.{◌≡◌, ℕ, zero, suc, Bool, true, false, cond, not, ◌&&◌, eqb, List, [], ◌∷◌, length, get_or, drop, set, Some, Ok, sym, refl, ap, ◌∙◌, arith, length-set, get_or-set_other}
-use Rattle.std.proofs.lemmas.Bool.{eqb-false, not-true, and_parts}
+use Rattle.std.proofs.lemmas.Bool.{eqb-false, not-true, and_parts, cond_both}
 use Rattle.isa.specs.declared.instruction.Instruction.{Instruction}
 use Rattle.isa.specs.declared.operation.JumpOp.{JumpOp}
 use Rattle.isa.specs.declared.operation.JumpOp.TheVariants.{B, Call}
@@ -36,20 +36,12 @@ record Keeps (i : Instruction) (p q : Processor) : Type 0 where
   eie : writes_ie i ≡ false → q.status.enable.eie ≡ p.status.enable.eie
   bie : writes_ie i ≡ false → q.status.enable.bie ≡ p.status.enable.bie
 
-eie_either : (b : Bool) (x y : Enable) (v : Bool) → x.eie ≡ v → y.eie ≡ v → (cond b x y).eie ≡ v
-eie_either true x y v e f = e
-eie_either false x y v e f = f
-
-bie_either : (b : Bool) (x y : Enable) (v : Bool) → x.bie ≡ v → y.bie ≡ v → (cond b x y).bie ≡ v
-bie_either true x y v e f = e
-bie_either false x y v e f = f
-
 returned_eie : (op : JumpOp) (r : Register) (e : Enable) → (returned op r e).eie ≡ e.eie
-returned_eie B r e = eie_either (eqb r.number 30) _ _ _ refl (eie_either (eqb r.number 31) _ _ _ refl refl)
+returned_eie B r e = cond_both (eqb r.number 30) _ _ (λ (x : Enable). x.eie ≡ e.eie) (λ _. refl) (λ _. cond_both (eqb r.number 31) _ _ (λ (x : Enable). x.eie ≡ e.eie) (λ _. refl) (λ _. refl))
 returned_eie Call r e = refl
 
 returned_bie : (op : JumpOp) (r : Register) (e : Enable) → (returned op r e).bie ≡ e.bie
-returned_bie B r e = bie_either (eqb r.number 30) _ _ _ refl (bie_either (eqb r.number 31) _ _ _ refl refl)
+returned_bie B r e = cond_both (eqb r.number 30) _ _ (λ (x : Enable). x.bie ≡ e.bie) (λ _. refl) (λ _. cond_both (eqb r.number 31) _ _ (λ (x : Enable). x.bie ≡ e.bie) (λ _. refl) (λ _. refl))
 returned_bie Call r e = refl
 
 linked_registers : (op : JumpOp) (p : Processor) (n : ℕ) → is_register n (link_register op) ≡ false → get_or (linked op p).registers n 0 ≡ get_or p.registers n 0
@@ -76,10 +68,6 @@ is_ie Deba = false
 is_ie (Breakpoint k) = false
 is_ie Other = false
 
-enable_either : (b : Bool) (x y : Status) (v : Enable) → x.enable ≡ v → y.enable ≡ v → (cond b x y).enable ≡ v
-enable_either true x y v e f = e
-enable_either false x y v e f = f
-
 written_enable : (p : Processor) (c : Csr) (v : ℕ) → is_ie c ≡ false → (status_written p c v).enable ≡ p.status.enable
 unfolding is_ie
 written_enable p Ie v e = let z : ◌≡◌ {A = ℕ} 0 1 = cc in absurd (omega arith)
@@ -88,9 +76,9 @@ written_enable p Ip v e = refl
 written_enable p Cc v e = refl
 written_enable p Cfg v e = refl
 written_enable p Eba v e = refl
-written_enable p Dc v e = enable_either (debugs p.config) _ _ _ refl refl
-written_enable p Deba v e = enable_either (debugs p.config) _ _ _ refl refl
-written_enable p (Breakpoint k) v e = enable_either (configured_breakpoint p.config k) _ _ _ refl refl
+written_enable p Dc v e = cond_both (debugs p.config) _ _ (λ (x : Status). x.enable ≡ p.status.enable) (λ _. refl) (λ _. refl)
+written_enable p Deba v e = cond_both (debugs p.config) _ _ (λ (x : Status). x.enable ≡ p.status.enable) (λ _. refl) (λ _. refl)
+written_enable p (Breakpoint k) v e = cond_both (configured_breakpoint p.config k) _ _ (λ (x : Status). x.enable ≡ p.status.enable) (λ _. refl) (λ _. refl)
 written_enable p Other v e = refl
 
 -- only number 0 is IE: a test of the whole table past its first entry
@@ -126,10 +114,6 @@ same_keeps i p q rs en = record {
   bie = λ _. ap (λ x. x.bie) en;
 }
 
-either_keeps : (i : Instruction) (b : Bool) (p x y : Processor) → Keeps i p x → Keeps i p y → Keeps i p (cond b x y)
-either_keeps i true p x y h k = h
-either_keeps i false p x y h k = k
-
 eie_saved : (b : Bool) (x : Enable) → not b ≡ false → (cond b (saved_by_breakpoint x) (saved_by_exception x)).eie ≡ x.eie
 eie_saved true x h = refl
 eie_saved false x h = let z : ◌≡◌ {A = ℕ} 0 1 = cc in absurd (omega arith)
@@ -142,7 +126,7 @@ done_keeps : {M : Type 0} (r : Rules M) (s : Machine M) (i : Instruction) (t : M
 done_keeps r s =
     after_done r s (λ i p. Keeps i s.cpu p) (λ i to v d. put_keeps i s.cpu _ to.number _ d refl refl) (λ i. same_keeps i s.cpu _ refl refl)
     (λ op left right offset.
-    either_keeps _ (branches op (reg s.cpu left) (reg s.cpu right)) s.cpu _ _ (same_keeps _ s.cpu _ refl refl) (same_keeps _ s.cpu _ refl refl))
+    cond_both (branches op (reg s.cpu left) (reg s.cpu right)) _ _ (Keeps _ s.cpu) (λ _. same_keeps _ s.cpu _ refl refl) (λ _. same_keeps _ s.cpu _ refl refl))
     (λ op target. record {
       registers = linked_registers op s.cpu;
       size = linked_size op s.cpu;
