@@ -73,7 +73,7 @@ module _ {M : Type 0} (r : Rules M) (s : Machine M) (h : Aligned s.cpu) where
       after_done r s (λ i p. Aligned p) (λ i to v d. next _ refl refl refl) (λ i. next _ refl refl refl)
       (λ op left right offset.
       cond_both (branches op (reg s.cpu left) (reg s.cpu right)) _ _ Aligned
-          (λ _. record { pc = reached_aligned s.cpu.pc _ h.pc; eba = h.eba; deba = h.deba }) (λ _. next _ refl refl refl))
+      (λ _. record { pc = reached_aligned s.cpu.pc _ h.pc; eba = h.eba; deba = h.deba }) (λ _. next _ refl refl refl))
       (λ op target. record { pc = omega arith; eba = h.eba; deba = h.deba })
       (λ op offset. record {
         pc = reached_aligned s.cpu.pc _ h.pc;

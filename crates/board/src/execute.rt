@@ -1,7 +1,6 @@
 // Executing an instruction, once nothing bars it.
-ghost use Rattle.std.specs.Prelude.{◌≡◌, ◌%◌, ◌==◌};
+ghost use Rattle.std.specs.Prelude.{◌≡◌};
 ghost use Rattle.board.specs.Execute.{aligned, barred, register_result, raised, executed};
-ghost use Rattle.bus.specs.Bytes.{width};
 ghost use Rattle.board.specs.Machine.{seen, or_stay, told};
 ghost use Rattle.board.specs.Ready.{allowed};
 
@@ -10,20 +9,10 @@ use crate::machine::Board;
 use alu::arithmetic::{compute, compute_immediate, divide, subtract};
 use alu::extend::extend;
 use alu::shift::shift;
-use bus::{Bus, Size};
+use bus::Bus;
 use cpu::csr::Csr;
 use cpu::{Processor, Stop, Trouble};
 use isa::{Instruction, RaiseOp, RegisterOp};
-
-fn multiple(size: Size, address: u32) -> bool
-    ensures { result ≡ ((address % width size) == 0) }
-{
-    match size {
-        Size::Byte => true,
-        Size::Half => address % 2 == 0,
-        Size::Word => address % 4 == 0,
-    }
-}
 
 fn is_aligned(processor: &Processor, instruction: Instruction) -> bool
     ensures { result ≡ aligned processor.now instruction }
@@ -34,13 +23,13 @@ fn is_aligned(processor: &Processor, instruction: Instruction) -> bool
             base,
             offset,
             ..
-        } => multiple(load_size(op), data_address(processor, base, offset)),
+        } => load_size(op).is_aligned(data_address(processor, base, offset)),
         Instruction::Store {
             op,
             base,
             offset,
             ..
-        } => multiple(store_size(op), data_address(processor, base, offset)),
+        } => store_size(op).is_aligned(data_address(processor, base, offset)),
         _ => true,
     }
 }
@@ -100,7 +89,7 @@ impl<B: Bus> Board<B> {
                 amount,
                 to,
             } => {
-                let value = shift(op, self.processor.get(from), amount.places as u32);
+                let value = shift(op, self.processor.get(from), u32::from(amount.places));
                 self.processor.result(to, value);
             }
             Instruction::Load {
@@ -141,12 +130,12 @@ impl<B: Bus> Board<B> {
             Instruction::Jump { op, target } => self.processor.jump(op, target),
             Instruction::JumpOffset { op, offset } => self.processor.jump_by(op, offset),
             Instruction::ReadCsr { csr, to } => {
-                let value = self.processor.read_csr(Csr::named(csr));
+                let value = self.processor.read_csr(Csr::from(csr));
                 self.processor.result(to, value);
             }
             Instruction::WriteCsr { csr, from } => {
                 let value = self.processor.get(from);
-                self.processor.write_csr(Csr::named(csr), value);
+                self.processor.write_csr(Csr::from(csr), value);
                 self.processor.advance();
             }
             Instruction::Raise { op } => return Err(raise(op)),

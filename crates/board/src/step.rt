@@ -14,7 +14,7 @@ use crate::execute::allow;
 use crate::halt::{Halt, Ready};
 use crate::machine::Board;
 use bus::{Bus, Size};
-use cpu::{Answer, Config, Exception, Processor, Stop, Trouble};
+use cpu::{Answer, Config, Exception, Phase, Processor, Trouble};
 use isa::Instruction;
 
 impl<B: Bus> Board<B> {
@@ -64,7 +64,9 @@ impl<B: Bus> Board<B> {
         if let Some(line) = self.processor.interrupt(lines) {
             return Err(Exception::Interrupt(line).into());
         }
-        let word = self.fetch().map_err(|trouble| trouble.while_fetching())?;
+        let word = self
+            .fetch()
+            .map_err(|trouble| trouble.raised(Phase::Fetching))?;
         let instruction = Instruction::decode(word)?;
         allow(&self.processor, instruction)?;
         Ok(Ready { word, instruction })
@@ -94,7 +96,7 @@ impl<B: Bus> Board<B> {
                         self.settle();
                         Answer::Done(ready.word)
                     }
-                    Err(trouble) => self.depart(trouble.while_executing()),
+                    Err(trouble) => self.depart(trouble.raised(Phase::Executing)),
                 }
             }
             Err(Halt::Exception(exception)) => {
