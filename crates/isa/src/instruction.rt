@@ -5,7 +5,7 @@ use crate::operation::*;
 use crate::register::Register;
 use crate::shift_amount::ShiftAmount;
 
-#[derive(Clone, Copy)]
+#[derive(Clone, Copy, PartialEq, Eq)]
 pub enum Instruction {
     Immediate {
         op: ImmediateOp,

@@ -1,7 +1,7 @@
 // What an opcode names. The numbers are opcodes; where an operation has a second form, its opcode lies at a fixed distance.
 
 /// Has a form with an immediate, at the number, and one with three registers, 0x20 above.
-#[derive(Clone, Copy)]
+#[derive(Clone, Copy, PartialEq, Eq)]
 pub enum BinaryOp {
     Nor = 0x01,
     Mul = 0x02,
@@ -19,21 +19,21 @@ pub enum BinaryOp {
 }
 
 /// Takes its immediate as the high half of a word.
-#[derive(Clone, Copy)]
+#[derive(Clone, Copy, PartialEq, Eq)]
 pub enum HighOp {
     Andhi = 0x18,
     Orhi = 0x1E,
 }
 
 /// Has a form with an immediate, at the number, and one with three registers, 0x20 above.
-#[derive(Clone, Copy)]
+#[derive(Clone, Copy, PartialEq, Eq)]
 pub enum ShiftOp {
     Sru = 0x00,
     Sr = 0x05,
     Sl = 0x0F,
 }
 
-#[derive(Clone, Copy)]
+#[derive(Clone, Copy, PartialEq, Eq)]
 pub enum LoadOp {
     Lb = 0x04,
     Lh = 0x07,
@@ -42,14 +42,14 @@ pub enum LoadOp {
     Lbu = 0x10,
 }
 
-#[derive(Clone, Copy)]
+#[derive(Clone, Copy, PartialEq, Eq)]
 pub enum StoreOp {
     Sh = 0x03,
     Sb = 0x0C,
     Sw = 0x16,
 }
 
-#[derive(Clone, Copy)]
+#[derive(Clone, Copy, PartialEq, Eq)]
 pub enum BranchOp {
     Be = 0x11,
     Bg = 0x12,
@@ -59,32 +59,32 @@ pub enum BranchOp {
     Bne = 0x17,
 }
 
-#[derive(Clone, Copy)]
+#[derive(Clone, Copy, PartialEq, Eq)]
 pub enum DivideOp {
     Divu = 0x23,
     Modu = 0x31,
 }
 
-#[derive(Clone, Copy)]
+#[derive(Clone, Copy, PartialEq, Eq)]
 pub enum ExtendOp {
     Sextb = 0x2C,
     Sexth = 0x37,
 }
 
 /// Has a form that jumps to a register, at the number, and one that jumps by an offset, 8 above.
-#[derive(Clone, Copy)]
+#[derive(Clone, Copy, PartialEq, Eq)]
 pub enum JumpOp {
     B = 0x30,
     Call = 0x36,
 }
 
-#[derive(Clone, Copy)]
+#[derive(Clone, Copy, PartialEq, Eq)]
 pub enum ImmediateOp {
     Binary(BinaryOp),
     High(HighOp),
 }
 
-#[derive(Clone, Copy)]
+#[derive(Clone, Copy, PartialEq, Eq)]
 pub enum RegisterOp {
     Binary(BinaryOp),
     Shift(ShiftOp),
@@ -109,7 +109,7 @@ pub enum Operation {
 }
 
 /// What a raise says in its low five bits.
-#[derive(Clone, Copy)]
+#[derive(Clone, Copy, PartialEq, Eq)]
 pub enum RaiseOp {
     Break = 2,
     Scall = 7,

@@ -1,7 +1,7 @@
 // The number of one of the 32 general registers.
 ghost use Rattle.std.specs.Prelude.{◌≡◌, ◌<◌};
 
-#[derive(Clone, Copy)]
+#[derive(Clone, Copy, PartialEq, Eq)]
 pub struct Register {
     pub number: u8,
     ghost within: { number < 32 },

@@ -70,6 +70,7 @@ mod tests {
         for (word, instruction) in cases {
             assert_eq!(rt; instruction.encode(), word);
             assert_eq!(rt; reencode(word).ok(), Some(word));
+            assert!(rt; Instruction::decode(word) == Ok(instruction));
         }
     }
 
