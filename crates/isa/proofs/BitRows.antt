@@ -1,7 +1,8 @@
 -- A row of bits is zero exactly where no bit of it is set.
 use Rattle.std.proofs.Common.{◌≡◌, ℕ, zero, suc, ◌+◌, ◌-◌, ◌*◌, ◌/◌, ◌%◌, ◌^◌, ◌<◌, ◌≤◌, ◌≢◌, sym, ap, ◌∙◌, subst, ⊎_elim, arith}
-use native.Mathlib.Nat.{zero-div}
-use Rattle.std.proofs.lemmas.Nat.{mod-pow-add, shr-shr, field_of}
+use Rattle.std.specs.Int.{bit_at}
+use Rattle.std.proofs.lemmas.Nat.{mod-pow-add, shr_split, shr-shr}
+use Rattle.std.proofs.lemmas.Nat.Bits.{bit_at_cat_low, bit_at-zero}
 use Rattle.std.proofs.lemmas.Bool.{cases_eq}
 use Rattle.isa.specs.ReservedWords.{IsSet}
 
@@ -24,15 +25,13 @@ set_bit (suc n) low w h =
     (s.0, s.1, omega arith, s.3))
     (cases_eq (w / 2 ^ low / 2 ^ n % 2) 1)
 
-lowest : (x m j : ℕ) → x % 2 ^ (m + 1 + j) ≡ 0 → x / 2 ^ j % 2 ≡ 0
-lowest x m j e =
-    let f : x / 2 ^ j % 2 ^ (m + 1) ≡ 0 = sym (field_of x (m + 1) j) ∙ ap (λ (t : ℕ). t / 2 ^ j) e ∙ zero-div (2 ^ j) in
-    omega (arith, mod-pow-add (x / 2 ^ j) m 1)
-
 -- in a row that is zero no bit is set
 pub no_bit : (n low k w : ℕ) → w / 2 ^ low % 2 ^ n ≡ 0 → low ≤ k → k < low + n → w / 2 ^ k % 2 ≡ 0
 no_bit n low k w e p q =
-    let a : n ≡ n - (k - low + 1) + 1 + (k - low) = omega arith in
-    let b : low + (k - low) ≡ k = omega arith in
-    let z : w / 2 ^ low % 2 ^ (n - (k - low + 1) + 1 + (k - low)) ≡ 0 = subst (λ (t : ℕ). w / 2 ^ low % 2 ^ t ≡ 0) a e in
-    subst (λ (t : ℕ). w / 2 ^ t % 2 ≡ 0) b (ap (λ (x : ℕ). x % 2) (sym (shr-shr w low (k - low))) ∙ lowest (w / 2 ^ low) (n - (k - low + 1)) (k - low) z)
+    let x = w / 2 ^ low in
+    let i = k - low in
+    let above : x / 2 ^ n * 2 ^ n + 0 ≡ x = subst (λ (r : ℕ). x / 2 ^ n * 2 ^ n + r ≡ x) e (shr_split x n) in
+    let zero_there = bit_at_cat_low (x / 2 ^ n) n 0 i (omega arith) ∙ bit_at-zero i in
+    let clear : w / 2 ^ (low + i) % 2 ≡ 0 = ap (λ (y : ℕ). y % 2) (sym (shr-shr w low i)) ∙ subst (λ (y : ℕ). bit_at y i ≡ 0) above zero_there in
+    let place : low + i ≡ k = omega arith in
+    subst (λ (t : ℕ). w / 2 ^ t % 2 ≡ 0) place clear

@@ -1,6 +1,5 @@
 pub mod Answered
 pub mod BitRows
-pub mod Every
 pub mod Formed
 pub mod Packed
 pub mod ReservedWords

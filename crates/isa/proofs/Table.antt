@@ -1,7 +1,10 @@
 -- The opcode table's rule, at all 64 entries by one test that antt computes: an operation stands at its code, and the empty places are four.
-use Rattle.std.proofs.Common.{◌≡◌, ℕ, ◌+◌, ◌<◌, Bool, true, ◌||◌, eqb, ◌⊎◌, Some, None, Option, sym, refl, ◌∙◌, subst, ⊎_elim, arith}
+use Rattle.std.proofs.Common.{◌≡◌, ℕ, ◌+◌, ◌<◌, Bool, true, ◌||◌, eqb, ◌⊎◌, List, get_or, Some, None, Option, sym, refl, ap, ◌∙◌, subst, ⊎_elim, zero-add, arith}
+use Rattle.std.specs.List.{list_all, enumerate_from}
 use Rattle.std.proofs.lemmas.List.{get_or_past}
-use Rattle.std.proofs.lemmas.Bool.{cases_lt, eqb-true}
+use Rattle.std.proofs.lemmas.List.Folds.{list_all_at}
+use Rattle.std.proofs.lemmas.List.FromFn.{get_or-enumerate_from}
+use Rattle.std.proofs.lemmas.Bool.{cases_lt, cases_Bool, eqb-true, false≢true}
 use Rattle.std.proofs.lemmas.Bool.Decides.{nat_tests}
 use Rattle.isa.specs.declared.operation.Operation.{Operation}
 use Rattle.isa.specs.declared.operation.ImmediateOp.{ImmediateOp}
@@ -19,7 +22,6 @@ use Rattle.isa.specs.declared.operation.DivideOp.TheVariants.{Divu, Modu}
 use Rattle.isa.specs.declared.operation.ExtendOp.TheVariants.{Sextb, Sexth}
 use Rattle.isa.specs.declared.operation.JumpOp.TheVariants.{B, Call}
 use Rattle.isa.specs.Opcodes.{opcodes, named}
-use Rattle.isa.proofs.Every.{at}
 
 -- the codes, as the enums' numbers give them
 abbrev pub binary : BinaryOp → ℕ
@@ -97,8 +99,23 @@ abbrev right : ℕ → Option Operation → Bool
 right k None = empty k
 right k (Some op) = eqb (code op) k
 
+-- the entries with their places
+abbrev entries : List (ℕ × Option Operation)
+entries = enumerate_from 0 opcodes
+
+abbrev passes : ℕ × Option Operation → Bool
+passes entry = right entry.0 entry.1
+
+all_pass : list_all passes entries ≡ true
+all_pass = refl
+
 rule : (k : ℕ) → k < 64 → right k (named k) ≡ true
-rule k h = at right None opcodes refl k h
+rule k h =
+    let e : get_or entries k (0, None) ≡ (k, named k) = get_or-enumerate_from 0 opcodes k (0, None) h ∙ ap (λ (n : ℕ). (n, named k)) (zero-add k) in
+    ⊎_elim
+    (λ yes. yes)
+    (λ no. absurd (false≢true (sym (list_all_at passes entries k (0, None) h (ap passes e ∙ no)) ∙ all_pass)))
+    (cases_Bool (right k (named k)))
 
 ruled : (o : Option Operation) (k : ℕ) → named k ≡ o → k < 64 → right k o ≡ true
 ruled o k e h = subst (λ (x : Option Operation). right k x ≡ true) e (rule k h)
