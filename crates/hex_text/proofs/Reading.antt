@@ -15,11 +15,6 @@ after_digit n b bs d e =
     let sum : n * 16 + _ ≡ 16 * n + d = omega (arith, is.1) in
     rw is.0 (ap (λ v. hex_after v bs) sum)
 
-pub two_digits : (high low x y : ℕ) → Some x ≡ hex_digit_value high → Some y ≡ hex_digit_value low → Some (16 * x + y) ≡ hex_number (high ∷ low ∷ [])
-two_digits high low x y h l =
-    let start : 16 * 0 + x ≡ x = omega arith in
-    sym (after_digit 0 high (low ∷ []) x h ∙ ap (λ v. hex_after v (low ∷ [])) start ∙ after_digit x low [] y l)
-
 pub digit_below : (b d : ℕ) → Some d ≡ hex_digit_value b → d < 16
 digit_below b d e =
     let is = some_when (is_hex_digit b) _ d (sym e) in

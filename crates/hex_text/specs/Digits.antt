@@ -1,5 +1,6 @@
 -- Upper-case hexadecimal: the digits that write a number, and the number that digits write.
 use Rattle.std.specs.Prelude.{◌≡◌, ℕ, zero, suc, ◌+◌, ◌/◌, ◌%◌, ◌^◌, ◌<◌, Bool, true, cond, ◌&&◌, ◌||◌, List, [], ◌∷◌, ◌++◌, length, Some, None, Option, ◌==◌, nat_le, nat_lt}
+use Rattle.std.specs.List.{list_all}
 use Rattle.std.specs.Str.Parse.{digits_value}
 use Rattle.std.specs.Char.{digit_value}
 
@@ -21,8 +22,7 @@ abbrev pub hex_digit_value : ℕ → Option ℕ
 hex_digit_value b = cond (is_hex_digit b) (Some (digit_value b)) None
 
 abbrev pub all_hex_digits : List ℕ → Bool
-all_hex_digits [] = true
-all_hex_digits (b ∷ bs) = is_hex_digit b && all_hex_digits bs
+all_hex_digits bs = list_all is_hex_digit bs
 
 -- the number that bytes write in base 16, where each of them is a digit
 abbrev pub hex_number : List ℕ → Option ℕ

@@ -4,5 +4,5 @@
 mod read;
 mod write;
 
-pub use read::{byte, word};
+pub use read::{byte, is_digit, word};
 pub use write::hexadecimal;

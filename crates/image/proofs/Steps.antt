@@ -30,23 +30,15 @@ module _ (image : List ℕ) (n place : ℕ) where
 module _ (memory : ℕ → Bool) where
   -- one byte of a data line
 
-  pub byte_on : (at : ℕ) (bs : List ℕ) (i : ℕ) → i < length bs → at < 2 ^ 32 → memory at ≡ true → on_memory memory (at + 1) (drop (i + 1) bs) ≡ on_memory memory at (drop i bs)
-  byte_on at bs i h fits on =
-      sym (at_drop_more (on_memory memory at) bs i 0 h
-      ∙ ap (λ t. t && on_memory memory (at + 1) (drop (i + 1) bs)) (and_from (ltb at (2 ^ 32)) (memory at) (lt-ltb at (2 ^ 32) fits) on))
+  module _ (at : ℕ) (bs : List ℕ) (b : ℕ) (more : List ℕ) (cut : bs ≡ b ∷ more) where
+    pub byte_on : at < 2 ^ 32 → memory at ≡ true → on_memory memory (at + 1) more ≡ on_memory memory at bs
+    byte_on fits on = rw (cut, lt-ltb at (2 ^ 32) fits, on) refl
 
-  byte_off : (at : ℕ) (bs : List ℕ) (i : ℕ) → i < length bs → (ltb at (2 ^ 32) && memory at) ≡ false → false ≡ on_memory memory at (drop i bs)
-  byte_off at bs i h off =
-      sym (at_drop_more (on_memory memory at) bs i 0 h ∙ ap (λ t. t && on_memory memory (at + 1) (drop (i + 1) bs)) off)
+    pub byte_past : 2 ^ 32 ≤ at → false ≡ on_memory memory at bs
+    byte_past past = rw (cut, le-ltb at (2 ^ 32) past) refl
 
-  pub byte_past : (at : ℕ) (bs : List ℕ) (i : ℕ) → i < length bs → 2 ^ 32 ≤ at → false ≡ on_memory memory at (drop i bs)
-  byte_past at bs i h past = byte_off at bs i h (and_left (ltb at (2 ^ 32)) (memory at) (le-ltb at (2 ^ 32) past))
-
-  pub byte_elsewhere : (at : ℕ) (bs : List ℕ) (i : ℕ) → i < length bs → memory at ≡ false → false ≡ on_memory memory at (drop i bs)
-  byte_elsewhere at bs i h off = byte_off at bs i h (and_right (ltb at (2 ^ 32)) (memory at) off)
-
-  pub bytes_done : (at : ℕ) (bs : List ℕ) (i : ℕ) → length bs ≤ i → true ≡ on_memory memory at (drop i bs)
-  bytes_done at bs i h = sym (at_drop_all (on_memory memory at) bs i h)
+    pub byte_elsewhere : memory at ≡ false → false ≡ on_memory memory at bs
+    byte_elsewhere off = rw (cut, and_right (ltb at (2 ^ 32)) (memory at) off) refl
 
   -- one line of an image
 

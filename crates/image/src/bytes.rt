@@ -1,17 +1,28 @@
-// The bytes of a data line, of which there are at most 32.
-ghost use Rattle.std.specs.Prelude.{◌≡◌, ◌≤◌, take};
+// The bytes of a data line, read from its pairs of digits as they are asked for.
+ghost use Rattle.std.specs.Prelude.{◌≤◌, length, IsSome};
+ghost use Rattle.image.specs.Reading.{bytes_of};
 
+// At most 32 bytes, which are left to be read.
 #[derive(Clone, Copy)]
-pub struct Bytes {
-    pub(crate) items: [u8; 32],
-    pub(crate) count: usize,
-    ghost few: { count ≤ 32 },
+pub struct Bytes<'a> {
+    pub(crate) digits: &'a [u8],
+    ghost pairs: { IsSome (bytes_of digits.now) },
+    ghost few: { length digits.now ≤ 64 },
 }
 
-impl Bytes {
-    pub fn as_slice(&self) -> &[u8]
-        ensures value { result.now ≡ take self.now.count self.now.items }
-    {
-        &self.items[0..self.count]
+impl Iterator for Bytes<'_> {
+    ghost use Rattle.std.specs.Iterator.{YieldsFirst, item_count};
+    ghost use Rattle.image.specs.Meaning.{bytes_in};
+
+    type Item = u8;
+
+    ghost next_gives = { YieldsFirst bytes_in };
+
+    ghost remaining = { item_count bytes_in };
+
+    fn next(&mut self) -> Option<u8> {
+        let (pair, rest) = self.digits.split_first_chunk::<2>()?;
+        self.digits = rest;
+        hex_text::byte(pair[0], pair[1])
     }
 }

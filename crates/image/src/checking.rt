@@ -3,9 +3,10 @@ ghost use Rattle.std.specs.Prelude.{◌≡◌, drop, if◌then◌else◌, nat_eq
 ghost use Rattle.image.specs.Acceptance.{Accepts};
 ghost use Rattle.image.specs.Checking.{refused, ended, on_memory, checked};
 ghost use Rattle.image.specs.Lines.{lines_of};
-ghost use Rattle.image.specs.Meaning.{answer_in};
+ghost use Rattle.image.specs.Meaning.{answer_in, bytes_in};
 ghost use Rattle.image.specs.Memory.{memory_in};
 
+use crate::bytes::Bytes;
 use crate::cut::line_at;
 use crate::line::Line;
 use crate::read::read_line;
@@ -19,15 +20,13 @@ fn is_memory<B: Bus>(bus: &B, address: u32) -> bool
 }
 
 // Whether each of the bytes falls on memory, from `address` on.
-fn on_memory<B: Bus>(bus: &B, address: u32, bytes: &[u8]) -> bool
-    ensures value { result ≡ on_memory (memory_in B.Bus.rules (B.Bus.means bus.now)) address bytes.now }
+fn on_memory<B: Bus>(bus: &B, address: u32, bytes: Bytes<'_>) -> bool
+    ensures value { result ≡ on_memory (memory_in B.Bus.rules (B.Bus.means bus.now)) address (bytes_in bytes.entry) }
 {
-    let mut at = u64::from(address);
-    for _b in bytes {
+    for (at, _) in (u64::from(address)..).zip(bytes) {
         if at > u64::from(u32::MAX) || !is_memory(bus, at as u32) {
             return false;
         }
-        at += 1;
     }
     true
 }
@@ -62,15 +61,15 @@ pub fn check<B: Bus>(bus: &B, image: &[u8]) -> Result<u32, Refusal>
     while let Some(line) = line_at(image, place) {
         let next = place + line.len() + 1;
         match read_line(line) {
-            Line::Malformed => {
+            None => {
                 return Err(Refusal {
                     cause: Cause::Form,
                     place,
                 });
             }
-            Line::End(stated) => return check_end(image, stated, count, place, next),
-            Line::Data(found) => {
-                if !on_memory(bus, found.address, found.bytes.as_slice()) {
+            Some(Line::End(stated)) => return check_end(image, stated, count, place, next),
+            Some(Line::Data(found)) => {
+                if !on_memory(bus, found.address, found.bytes) {
                     return Err(Refusal {
                         cause: Cause::Memory,
                         place,

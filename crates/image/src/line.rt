@@ -3,15 +3,14 @@ use crate::bytes::Bytes;
 
 // Bytes for memory, from `address` on.
 #[derive(Clone, Copy)]
-pub struct DataLine {
+pub struct DataLine<'a> {
     pub address: u32,
-    pub bytes: Bytes,
+    pub bytes: Bytes<'a>,
 }
 
-// A data line, an end line with its count, or a line of neither form.
+// A data line, or an end line with its count.
 #[derive(Clone, Copy)]
-pub enum Line {
-    Data(DataLine),
+pub enum Line<'a> {
+    Data(DataLine<'a>),
     End(u32),
-    Malformed,
 }

@@ -1,6 +1,7 @@
 // Reads a line of an image.
 ghost use Rattle.std.specs.Prelude.{◌≡◌, ◌<◌, true, length};
 ghost use Rattle.std.specs.Option.{option_map};
+ghost use Rattle.hex_text.specs.Digits.{all_hex_digits};
 ghost use Rattle.image.specs.Inverse.{Undoes};
 ghost use Rattle.image.specs.Meaning.{bytes_in, data_in, reading_in};
 ghost use Rattle.image.specs.Reading.{has, starts_data, starts_end, payload, read_data, read_end, read_line};
@@ -8,26 +9,28 @@ ghost use Rattle.image.specs.Reading.{has, starts_data, starts_end, payload, rea
 use crate::bytes::Bytes;
 use crate::line::{DataLine, Line};
 
+fn all_digits(bytes: &[u8]) -> bool
+    ensures value { result ≡ all_hex_digits bytes.now }
+{
+    bytes.iter().all(|byte| hex_text::is_digit(*byte))
+}
+
 // The 1 to 32 bytes that pairs of digits write.
-fn read_bytes(digits: &[u8]) -> Option<Bytes>
+fn read_bytes(digits: &[u8]) -> Option<Bytes<'_>>
     ensures value { option_map bytes_in result ≡ payload digits.now }
 {
-    let count = digits.len() / 2;
-    if digits.len() % 2 != 0 || count == 0 || count > 32 {
+    let count = digits.len();
+    if count % 2 != 0 || count == 0 || count > 64 || !all_digits(digits) {
         return None;
     }
-    let mut items = [0; 32];
-    for k in 0..count {
-        items[k] = hex_text::byte(digits[2 * k], digits[2 * k + 1])?;
-    }
-    Some(Bytes { items, count })
+    Some(Bytes { digits })
 }
 
 // Whether the line has `byte` at `place`.
 fn has(line: &[u8], place: usize, byte: u8) -> bool
     ensures value { result ≡ has line.now place byte }
 {
-    place < line.len() && line[place] == byte
+    line.get(place) == Some(&byte)
 }
 
 // Whether the line has M and the two commas of a data line.
@@ -47,7 +50,7 @@ fn starts_end(line: &[u8]) -> bool
 }
 
 // A line that begins with M, an address and a comma, and goes on with bytes.
-fn read_data(line: &[u8]) -> Option<DataLine>
+fn read_data(line: &[u8]) -> Option<DataLine<'_>>
     ensures value { option_map data_in result ≡ read_data line.now }
 {
     if !starts_data(line) {
@@ -68,16 +71,13 @@ fn read_end(line: &[u8]) -> Option<u32>
     hex_text::word(&line[2..])
 }
 
-// What the line is. Its line feed does not belong to it.
-pub fn read_line(line: &[u8]) -> Line
+// What the line is, or none where it is malformed. Its line feed does not belong to it.
+pub fn read_line(line: &[u8]) -> Option<Line<'_>>
     ensures value { reading_in result ≡ read_line line.now }
     ensures inverse { Undoes line.now (reading_in result) }
 {
     if let Some(found) = read_data(line) {
-        Line::Data(found)
-    } else if let Some(count) = read_end(line) {
-        Line::End(count)
-    } else {
-        Line::Malformed
+        return Some(Line::Data(found));
     }
+    Some(Line::End(read_end(line)?))
 }

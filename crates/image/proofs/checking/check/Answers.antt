@@ -10,11 +10,11 @@ use Rattle.image.proofs.checking.check.Goals as goal
 told : (memory : ℕ → Bool) (image : List ℕ) (a : Answer) → a ≡ checked memory image → record { answer : a ≡ checked memory image; acceptance : Accepts memory image a }
 told memory image a is = record { answer = is; acceptance = accepts memory image a is }
 
-pub returns-in-Malformed : goal.returns-in-Malformed
-returns-in-Malformed g c = told (memory_in g.B.Bus.rules (g.B.Bus.means c.args.bus.now)) c.args.image.now _ (search rules)
+pub returns-in-None : goal.returns-in-None
+returns-in-None g c = told (memory_in g.B.Bus.rules (g.B.Bus.means c.args.bus.now)) c.args.image.now _ (search rules)
 
-pub returns-in-End : goal.returns-in-End
-returns-in-End g c = told (memory_in g.B.Bus.rules (g.B.Bus.means c.args.bus.now)) c.args.image.now _ (search rules)
+pub returns-in-Some-End : goal.returns-in-Some-End
+returns-in-Some-End g c = told (memory_in g.B.Bus.rules (g.B.Bus.means c.args.bus.now)) c.args.image.now _ (search rules)
 
 pub returns-then-not-on_memory : goal.returns-then-not-on_memory
 returns-then-not-on_memory g c = told (memory_in g.B.Bus.rules (g.B.Bus.means c.args.bus.now)) c.args.image.now _ (search rules)

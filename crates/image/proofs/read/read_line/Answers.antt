@@ -11,8 +11,8 @@ told l r is = record { value = is; inverse = undoes l r is }
 pub returns-in-Some : goal.returns-in-Some
 returns-in-Some c = told c.args.line.now _ (search rules)
 
-pub returns-in-Some-read_end : goal.returns-in-Some-read_end
-returns-in-Some-read_end c = told c.args.line.now _ (search rules)
+pub returns-in_err-read_end : goal.returns-in_err-read_end
+returns-in_err-read_end c = told c.args.line.now _ (search rules)
 
-pub returns-in_default-read_end : goal.returns-in_default-read_end
-returns-in_default-read_end c = told c.args.line.now _ (search rules)
+pub returns : goal.returns
+returns c = told c.args.line.now _ (search rules)
