@@ -1,58 +1,45 @@
--- A line feed found, or none, after the bytes passed so far.
-use Rattle.std.proofs.Common.{◌≡◌, ℕ, ◌+◌, ◌-◌, ◌<◌, ◌≤◌, cond, List, [], ◌∷◌, ◌++◌, length, get_or, take, drop, sym, refl, ap, ◌∙◌, arith}
-use Rattle.std.proofs.lemmas.List.{append-nil, append_assoc, take_more, take_all, get_or-drop, length-drop, drop_more, drop_all}
-use Rattle.std.proofs.lemmas.Bool.{eq-eqb, ne_eqb}
+-- The first line feed cuts off a line, and without one nothing is cut off.
+use Rattle.std.proofs.Common.{◌≡◌, ℕ, suc, ◌+◌, ◌<◌, ◌≤◌, Bool, true, false, not, cond, eqb, ltb, List, [], ◌∷◌, length, take, drop, Some, None, refl, ap, arith}
+use Rattle.std.specs.List.{position, position_or_len}
+use Rattle.std.proofs.lemmas.Bool.{ltb-true, ltb-false}
 use Rattle.image.specs.Lines.{Lines, line, rest, longer, lines_of}
 
--- bytes before the first line feed, or before the rest where there is none
-abbrev pub grown : List ℕ → Lines → Lines
-grown xs (line l ls) = line (xs ++ l) ls
-grown xs (rest bs) = rest (xs ++ bs)
+-- how many bytes stand before the first line feed
+abbrev before_feed : List ℕ → ℕ
+before_feed bs = position_or_len (λ b. eqb b 10) bs
 
-grown_none : (ls : Lines) → ls ≡ grown [] ls
-grown_none (line l ls) = refl
-grown_none (rest bs) = refl
+uncut : (bs : List ℕ) → length bs ≤ before_feed bs → lines_of bs ≡ rest bs
+uncut [] h = refl
+uncut (b ∷ bs) h = by (eqb b 10) (uncut bs) h
+  where
+    by : (t : Bool) → (length bs ≤ before_feed bs → lines_of bs ≡ rest bs) → suc (length bs) ≤ cond (not t) (1 + before_feed bs) 0 → cond t (line [] (lines_of bs)) (longer b (lines_of bs)) ≡ rest (b ∷ bs)
+    by true more h = absurd (omega arith)
+    by false more h = ap (longer b) (more (omega arith))
 
-grown_longer : (xs : List ℕ) (b : ℕ) (ls : Lines) → grown xs (longer b ls) ≡ grown (xs ++ b ∷ []) ls
-grown_longer xs b (line l ls) = ap (λ k. line k ls) (sym (append_assoc xs (b ∷ []) l))
-grown_longer xs b (rest bs) = ap rest (sym (append_assoc xs (b ∷ []) bs))
+cut_off : (bs : List ℕ) → before_feed bs < length bs → lines_of bs ≡ line (take (before_feed bs) bs) (lines_of (drop (before_feed bs + 1) bs))
+cut_off [] h = absurd (omega arith)
+cut_off (b ∷ bs) h = by (eqb b 10) (cut_off bs) h
+  where
+    by : (t : Bool) → (before_feed bs < length bs → lines_of bs ≡ line (take (before_feed bs) bs) (lines_of (drop (before_feed bs + 1) bs))) → cond (not t) (1 + before_feed bs) 0 < suc (length bs) → cond t (line [] (lines_of bs)) (longer b (lines_of bs)) ≡ line (take (cond (not t) (1 + before_feed bs) 0) (b ∷ bs)) (lines_of (drop (cond (not t) (1 + before_feed bs) 0 + 1) (b ∷ bs)))
+    by true more h = refl
+    by false more h =
+        let one : 1 + before_feed bs ≡ suc (before_feed bs) = omega arith in
+        let two : 1 + before_feed bs + 1 ≡ suc (before_feed bs + 1) = omega arith in
+        rw (two, one) (ap (longer b) (more (omega arith)))
 
--- the bytes from place to end have no line feed
-abbrev pub Passed : List ℕ → ℕ → ℕ → Type 0
-Passed image place end = lines_of (drop place image) ≡ grown (take (end - place) (drop place image)) (lines_of (drop end image))
+pub no_feed : (bs : List ℕ) → None ≡ position (λ b. eqb b 10) bs → lines_of bs ≡ rest bs
+no_feed bs e = by (ltb (before_feed bs) (length bs)) refl e
+  where
+    by : (t : Bool) → ltb (before_feed bs) (length bs) ≡ t → None ≡ cond t (Some (before_feed bs)) None → lines_of bs ≡ rest bs
+    by true is e = cc
+    by false is e = uncut bs (ltb-false (before_feed bs) (length bs) is)
 
-module _ (image : List ℕ) (place : ℕ) where
-  pub passed_none : Passed image place place
-  passed_none =
-      let none : 0 ≡ place - place = omega arith in
-      grown_none (lines_of (drop place image)) ∙ ap (λ n. grown (take n (drop place image)) (lines_of (drop place image))) none
-
-  module _ (end : ℕ) (from : place ≤ end) (passed : Passed image place end) where
-    pub passed_more : end < length image → (get_or image end 0 ≡ 10 → ⊥) → Passed image place (end + 1)
-    passed_more h other =
-        let xs = drop place image in
-        let b = get_or image end 0 in
-        let more = lines_of (drop (end + 1) image) in
-        let cut : lines_of (drop end image) ≡ longer b more =
-        ap lines_of (drop_more image end 0 h) ∙ ap (λ t. cond t (line [] more) (longer b more)) (ne_eqb b 10 other) in
-        let at : get_or xs (end - place) 0 ≡ b =
-        get_or-drop place image (end - place) 0 ∙ ap (λ i. get_or image i 0) (let e : place + (end - place) ≡ end = omega arith in e) in
-        let one : take (end + 1 - place) xs ≡ take (end - place) xs ++ b ∷ [] =
-        ap (λ n. take n xs) (let e : end + 1 - place ≡ end - place + 1 = omega arith in e)
-        ∙ take_more xs (end - place) 0 (omega (arith, length-drop place image)) ∙ ap (λ y. take (end - place) xs ++ y ∷ []) at in
-        passed ∙ ap (grown (take (end - place) xs)) cut ∙ grown_longer (take (end - place) xs) b more ∙ ap (λ ys. grown ys more) (sym one)
-
-    pub passed_found : end < length image → get_or image end 0 ≡ 10 → lines_of (drop place image) ≡ line (take (end - place) (drop place image)) (lines_of (drop (end + 1) image))
-    passed_found h feed =
-        let xs = take (end - place) (drop place image) in
-        let more = lines_of (drop (end + 1) image) in
-        let b = get_or image end 0 in
-        let cut : lines_of (drop end image) ≡ line [] more =
-        ap lines_of (drop_more image end 0 h) ∙ ap (λ t. cond t (line [] more) (longer b more)) (eq-eqb b 10 feed) in
-        passed ∙ ap (grown xs) cut ∙ ap (λ l. line l more) (append-nil xs)
-
-    pub passed_all : length image ≤ end → lines_of (drop place image) ≡ rest (drop place image)
-    passed_all h =
-        let xs = drop place image in
-        passed ∙ ap (λ ys. grown (take (end - place) xs) (lines_of ys)) (drop_all end image h)
-        ∙ ap rest (append-nil (take (end - place) xs) ∙ take_all (end - place) xs (omega (arith, length-drop place image)))
+pub feed_at : (bs : List ℕ) (n : ℕ) → Some n ≡ position (λ b. eqb b 10) bs → (n < length bs) × (lines_of bs ≡ line (take n bs) (lines_of (drop (n + 1) bs)))
+feed_at bs n e = by (ltb (before_feed bs) (length bs)) refl e
+  where
+    by : (t : Bool) → ltb (before_feed bs) (length bs) ≡ t → Some n ≡ cond t (Some (before_feed bs)) None → (n < length bs) × (lines_of bs ≡ line (take n bs) (lines_of (drop (n + 1) bs)))
+    by true is e =
+        let same : n ≡ before_feed bs = cc in
+        let some = ltb-true (before_feed bs) (length bs) is in
+        rw same (some, cut_off bs some)
+    by false is e = cc

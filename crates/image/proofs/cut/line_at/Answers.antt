@@ -1,25 +1,25 @@
--- A byte passed, a line feed found, and the end of the image.
-use Rattle.std.proofs.Common.{◌≡◌, ◌+◌, ◌-◌, length, take, drop, ap, ◌∙◌, arith}
-use Rattle.std.proofs.lemmas.List.{length-take-le, length-drop}
+-- No line feed, and the first of them.
+use Rattle.std.proofs.Common.{◌≡◌, ◌+◌, length, take, drop, sym, ap, ◌∙◌, rules, arith}
+use Rattle.std.proofs.lemmas.List.{length-take-le, drop-drop, take_rest}
 use Rattle.image.specs.Lines.{line, lines_of}
-use Rattle.image.proofs.Cutting.{passed_more, passed_found, passed_all}
+use Rattle.image.proofs.Cutting.{no_feed, feed_at}
 use Rattle.image.proofs.cut.line_at.Goals as goal
 
-pub loop-end-preserved : goal.loop-end-preserved
-loop-end-preserved c =
-    let on = c.loop-end.invariant in
-    (omega arith, passed_more c.args.image.now c.args.place c.loop-end.end on.0 on.1 c.loop-end-test.true (λ e. omega arith))
-
-pub returns-then-image-end-eq10 : goal.returns-then-image-end-eq10
-returns-then-image-end-eq10 c =
+pub returns-in_err-end : goal.returns-in_err-end
+returns-in_err-end c =
     let image = c.args.image.now in
-    let place = c.args.place in
-    let end = c.loop-end.end in
-    let l = take (end - place) (drop place image) in
-    let long : length l ≡ end - place = length-take-le (end - place) (drop place image) (omega (arith, length-drop place image)) in
-    let next : end + 1 ≡ place + length l + 1 = omega arith in
-    let on = c.loop-end.invariant in
-    record { value = (passed_found image place end on.0 on.1 c.loop-end-test.true (omega arith) ∙ ap (λ n. line l (lines_of (drop n image))) next, omega arith) }
+    let is : c.in_ok-rest.rest.now ≡ drop c.args.place image = c.in_ok-rest.ensures.lookup.0.2 ∙ take_rest image c.args.place in
+    record { value = rw c.from_residual-in_err-end.ensures (rw is at (no_feed c.in_ok-rest.rest.now c.in_err-end.ensures.value)) }
 
 pub returns : goal.returns
-returns c = record { value = passed_all c.args.image.now c.args.place c.loop-end.end c.loop-end.invariant.0 c.loop-end.invariant.1 c.loop-end-test.false }
+returns c =
+    let image = c.args.image.now in
+    let place = c.args.place in
+    let found = c.in_ok-rest.rest.now in
+    let n = c.in_ok-end.end in
+    let is : found ≡ drop place image = c.in_ok-rest.ensures.lookup.0.2 ∙ take_rest image place in
+    let cut = feed_at found n c.in_ok-end.ensures.value in
+    let long : length (take n found) ≡ n = length-take-le n found (omega arith) in
+    let next : place + (n + 1) ≡ place + length (take n found) + 1 = omega arith in
+    let more : drop (n + 1) found ≡ drop (place + length (take n found) + 1) image = ap (drop (n + 1)) is ∙ drop-drop (n + 1) place image ∙ ap (λ k. drop k image) next in
+    record { value = (ap lines_of (sym is) ∙ cut.1 ∙ ap (λ bs. line (take n found) (lines_of bs)) more, omega arith) }
