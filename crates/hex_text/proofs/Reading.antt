@@ -1,8 +1,8 @@
 -- Reading digits one by one, from the left.
-use Rattle.std.proofs.Common.{◌≡◌, ℕ, suc, ◌+◌, ◌*◌, ◌^◌, ◌<◌, ◌≤◌, Bool, true, false, cond, List, [], ◌∷◌, Some, None, Option, sym, refl, ap, ◌∙◌, pow-suc, arith}
+use Rattle.std.proofs.Common.{◌≡◌, ℕ, suc, ◌+◌, ◌*◌, ◌^◌, ◌<◌, ◌≤◌, Bool, true, false, cond, List, ◌∷◌, Some, None, Option, sym, refl, ap, pow-suc, arith}
 use native.Mathlib.Nat.{pow-le-pow_right}
 use Rattle.std.specs.Str.Parse.{digits_value_after}
-use Rattle.hex_text.specs.Digits.{is_hex_digit, hex_digit_value, all_hex_digits, hex_number}
+use Rattle.hex_text.specs.Digits.{is_hex_digit, hex_digit_value, all_hex_digits}
 use Rattle.hex_text.proofs.Inverse.{some_when, digit_forth}
 
 -- the number that bytes write after the digits of n

@@ -1,7 +1,7 @@
 -- The check, one line or one byte on.
-use Rattle.std.proofs.Common.{◌≡◌, ℕ, ◌+◌, ◌^◌, ◌<◌, ◌≤◌, Bool, true, false, cond, ◌&&◌, eqb, ltb, List, [], ◌∷◌, length, drop, Some, None, sym, refl, ap, ◌∙◌, arith}
-use Rattle.std.proofs.lemmas.List.{at_drop_more, at_drop_all, drop_all, length-drop}
-use Rattle.std.proofs.lemmas.Bool.{and_from, and_left, and_right, lt-ltb, le-ltb}
+use Rattle.std.proofs.Common.{◌≡◌, ℕ, ◌+◌, ◌^◌, ◌<◌, ◌≤◌, Bool, true, false, cond, eqb, ltb, List, [], ◌∷◌, length, drop, Some, None, refl, ap, ◌∙◌, arith}
+use Rattle.std.proofs.lemmas.List.{drop_all, length-drop}
+use Rattle.std.proofs.lemmas.Bool.{and_right, lt-ltb, le-ltb, ltb-true, ltb-false}
 use Rattle.image.specs.Checking.{accepted, refused, ended, on_memory, check_line, check_from}
 use Rattle.image.specs.Lines.{Lines, line, rest, longer, lines_of, LineAt}
 use Rattle.image.specs.Reading.{read_line}
@@ -49,8 +49,9 @@ module _ (memory : ℕ → Bool) where
   no_line place count [] h = absurd (omega arith)
   no_line place count (b ∷ bs) h = refl
 
-  pub line_cut_short : (image : List ℕ) (place count : ℕ) → LineAt image place None → place < length image → check_from memory place count (lines_of (drop place image)) ≡ refused 11 place
-  line_cut_short image place count at h = ap (check_from memory place count) at ∙ no_line place count (drop place image) (omega (arith, length-drop place image))
-
-  pub lines_done : (image : List ℕ) (place count : ℕ) → length image ≤ place → check_from memory place count (lines_of (drop place image)) ≡ refused 13 place
-  lines_done image place count h = ap (λ bs. check_from memory place count (lines_of bs)) (drop_all place image h)
+  pub lines_stop : (image : List ℕ) (place count : ℕ) → LineAt image place None → check_from memory place count (lines_of (drop place image)) ≡ refused (cond (ltb place (length image)) 11 13) place
+  lines_stop image place count at = by (ltb place (length image)) refl
+    where
+      by : (t : Bool) → ltb place (length image) ≡ t → check_from memory place count (lines_of (drop place image)) ≡ refused (cond t 11 13) place
+      by true e = ap (check_from memory place count) at ∙ no_line place count (drop place image) (omega (arith, length-drop place image, ltb-true place (length image) e))
+      by false e = ap (λ bs. check_from memory place count (lines_of bs)) (drop_all place image (ltb-false place (length image) e))

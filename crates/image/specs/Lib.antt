@@ -7,3 +7,4 @@ pub mod Lines
 pub mod Meaning
 pub mod Memory
 pub mod Reading
+pub mod Walk

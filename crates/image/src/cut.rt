@@ -10,6 +10,7 @@ fn first_feed(bytes: &[u8]) -> Option<usize>
 }
 
 // The line that begins at `place`, without its line feed, or none where no line feed follows.
+#[tactic(auto, using(crate::proofs::Cutting::no_line))]
 pub fn line_at(image: &[u8], place: usize) -> Option<&[u8]>
     ensures value { LineAt image.now place (option_map (λ x. x.now) result) }
 {

@@ -5,6 +5,7 @@ mod bytes;
 mod checking;
 mod cut;
 mod line;
+mod lines;
 mod read;
 mod refusal;
 
@@ -12,5 +13,6 @@ pub use bytes::Bytes;
 pub use checking::check;
 pub use cut::line_at;
 pub use line::{DataLine, Line};
+pub use lines::Lines;
 pub use read::read_line;
 pub use refusal::{Cause, Refusal};

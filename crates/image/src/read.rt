@@ -62,6 +62,7 @@ fn read_data(line: &[u8]) -> Option<DataLine<'_>>
 }
 
 // A line that begins with E and has a count.
+#[tactic(auto, using(crate::proofs::Forms::end_parts))]
 fn read_end(line: &[u8]) -> Option<u32>
     ensures value { result ≡ read_end line.now }
 {
@@ -72,6 +73,7 @@ fn read_end(line: &[u8]) -> Option<u32>
 }
 
 // What the line is, or none where it is malformed. Its line feed does not belong to it.
+#[tactic(auto, using(crate::proofs::Inverse::undoes))]
 pub fn read_line(line: &[u8]) -> Option<Line<'_>>
     ensures value { reading_in result ≡ read_line line.now }
     ensures inverse { Undoes line.now (reading_in result) }

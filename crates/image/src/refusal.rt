@@ -26,6 +26,14 @@ impl Cause {
     {
         self as u32
     }
+
+    // A refusal for this cause at a place.
+    pub(crate) fn at(self, place: usize) -> Refusal
+        ensures cause { result.cause ≡ self }
+        ensures place { result.place ≡ place }
+    {
+        Refusal { cause: self, place }
+    }
 }
 
 impl fmt::Display for Cause {

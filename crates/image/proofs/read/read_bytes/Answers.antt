@@ -1,6 +1,5 @@
 -- A count of digits that no data line has, a byte that is no digit, and the bytes of the pairs.
-use Rattle.std.proofs.Common.{◌≡◌, ◌*◌, ◌/◌, ◌≤◌, true, length, sym, ap, ◌∙◌, rules, arith}
-use Rattle.image.specs.Reading.{bytes_of}
+use Rattle.std.proofs.Common.{◌≡◌, ◌*◌, ◌/◌, length, sym, arith}
 use Rattle.image.proofs.Pairs.{all_read, payload_none, payload_of}
 use Rattle.image.proofs.read.read_bytes.Goals as goal
 use Rattle.image.proofs.read.read_bytes.Goals.{then-count-ne0-via-then-count-ne0, then-count-ne0-via-else-count-ne0+then-count-eq0, then-count-ne0-via-else-count-ne0+else-count-eq0+then-count-gt64, then-count-ne0-via-else-count-ne0+else-count-eq0+else-count-gt64+then-not-all_digits}

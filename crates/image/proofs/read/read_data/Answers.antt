@@ -1,18 +1,8 @@
 -- The address is read and the bytes are not, or both are.
-use Rattle.std.proofs.Common.{◌≡◌, true, ap, ◌∙◌, rules}
-use Rattle.std.specs.Option.{option_map}
-use Rattle.image.specs.Meaning.{data_in}
+use Rattle.std.proofs.Common.{◌≡◌, true, rules}
 use Rattle.image.specs.Reading.{starts_data}
 use Rattle.image.proofs.Forms.{data_parts}
 use Rattle.image.proofs.read.read_data.Goals as goal
-
-pub returns-in_err-bytes : goal.returns-in_err-bytes
-returns-in_err-bytes c =
-    let l = c.args.line.now in
-    let starts : starts_data l ≡ true = search rules in
-    record {
-      value = ap (option_map data_in) c.from_residual-in_err-bytes.ensures ∙ data_parts l _ _ starts c.in_ok-address.ensures.value c.in_err-bytes.ensures.value;
-    }
 
 pub returns : goal.returns
 returns c =
