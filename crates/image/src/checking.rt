@@ -16,7 +16,7 @@ use bus::{Bus, Kind};
 fn is_memory<B: Bus>(bus: &B, address: u32) -> bool
     ensures value { result ≡ memory_in B.Bus.rules (B.Bus.means bus.now) address }
 {
-    matches!(bus.kind(address), Kind::Memory)
+    bus.kind(address) == Kind::Memory
 }
 
 // Whether each of the bytes falls on memory, from `address` on.
