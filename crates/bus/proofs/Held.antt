@@ -29,12 +29,12 @@ held_set ls a w b len =
 
 -- the tag of a line that serves
 tag_of : (o : Option Line) (t w u : ℕ) → word_for t o ≡ Some w → is_some (word_for u o) ≡ eqb u t
-tag_of None t w u e = let z : ◌≡◌ {A = ℕ} 0 1 = cc in absurd (omega arith)
+tag_of None t w u e = cc
 tag_of (Some l) t w u e =
     ⊎_elim
     (λ q. some_cond (eqb l.tag u) l.word ∙ ap (λ x. eqb x u) (eqb-true l.tag t q) ∙ eqb_swap t u)
     (λ q. let none : None ≡ Some w = rw q at e in
-    let z : ◌≡◌ {A = ℕ} 0 1 = cc in absurd (omega arith))
+    cc)
     (cases_Bool (eqb l.tag t))
 
 -- putting in a word that is held changes nothing held

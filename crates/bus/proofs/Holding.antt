@@ -22,16 +22,16 @@ inside Half a e = omega arith
 inside Word a e = omega arith
 
 read_steady : {V : Type 0} (k : Kind) (h : Home) (v : V) → is_steady k ≡ true → readable k h v ≡ Ok v
-read_steady Absent h v e = let z : ◌≡◌ {A = ℕ} 0 1 = cc in absurd (omega arith)
+read_steady Absent h v e = cc
 read_steady Rom h v e = refl
 read_steady Memory h v e = refl
-read_steady Device h v e = let z : ◌≡◌ {A = ℕ} 0 1 = cc in absurd (omega arith)
+read_steady Device h v e = cc
 
 steady_is : (k : Kind) → is_steady k ≡ true → Steady k
-steady_is Absent e = let z : ◌≡◌ {A = ℕ} 0 1 = cc in absurd (omega arith)
+steady_is Absent e = cc
 steady_is Rom e = tt
 steady_is Memory e = tt
-steady_is Device e = let z : ◌≡◌ {A = ℕ} 0 1 = cc in absurd (omega arith)
+steady_is Device e = cc
 
 unfoldable pub Below : List ℕ → Type 0
 Below [] = Unit {0}
@@ -50,17 +50,17 @@ beside t a j n len ne h ins e =
 
 -- what an accepted write says of its address
 pub accepted : (b : Bool) (k : Kind) (h : Home) (f : Fault) → cond b (writable {V = Unit {0}} k h tt) (Err f) ≡ Ok tt → (b ≡ true) × Writable k
-accepted false k h f e = let z : ◌≡◌ {A = ℕ} 0 1 = cc in absurd (omega arith)
-accepted true Absent h f e = let z : ◌≡◌ {A = ℕ} 0 1 = cc in absurd (omega arith)
-accepted true Rom h f e = let z : ◌≡◌ {A = ℕ} 0 1 = cc in absurd (omega arith)
+accepted false k h f e = cc
+accepted true Absent h f e = cc
+accepted true Rom h f e = cc
 accepted true Memory h f e = (refl, tt)
 accepted true Device h f e = (refl, tt)
 
 accepted_value : {N : Type 0} (b : Bool) (k : Kind) (h : Home) (f : Fault) (d n : N) → cond b (writable {V = Unit {0}} k h tt) (Err f) ≡ Ok tt →
     or_else d (cond b (writable k h n) (Err f)) ≡ n
-accepted_value false k h f d n e = let z : ◌≡◌ {A = ℕ} 0 1 = cc in absurd (omega arith)
-accepted_value true Absent h f d n e = let z : ◌≡◌ {A = ℕ} 0 1 = cc in absurd (omega arith)
-accepted_value true Rom h f d n e = let z : ◌≡◌ {A = ℕ} 0 1 = cc in absurd (omega arith)
+accepted_value false k h f d n e = cc
+accepted_value true Absent h f d n e = cc
+accepted_value true Rom h f d n e = cc
 accepted_value true Memory h f d n e = refl
 accepted_value true Device h f d n e = refl
 
@@ -69,8 +69,8 @@ refused_value : {N : Type 0} (b : Bool) (k : Kind) (h : Home) (f g : Fault) (d n
 refused_value false k h f g d n e = refl
 refused_value true Absent h f g d n e = refl
 refused_value true Rom h f g d n e = refl
-refused_value true Memory h f g d n e = let z : ◌≡◌ {A = ℕ} 0 1 = cc in absurd (omega arith)
-refused_value true Device h f g d n e = let z : ◌≡◌ {A = ℕ} 0 1 = cc in absurd (omega arith)
+refused_value true Memory h f g d n e = cc
+refused_value true Device h f g d n e = cc
 
 module _ {M : Type 0} (r : Rules M) (laws : Laws r) where
   -- the four bytes of the word that lies at an address
@@ -122,7 +122,7 @@ module _ {M : Type 0} (r : Rules M) (laws : Laws r) where
   -- what a line that is right says of the word asked for
   right_word : (m : M) (k t w : ℕ) (o : Option Line) → RightLine r m k o → word_for t o ≡ Some w →
       (is_steady (r.kind m (t * 4)) ≡ true) × (w ≡ number (bytes_at r m (t * 4) 4))
-  right_word m k t w None h e = let z : ◌≡◌ {A = ℕ} 0 1 = cc in absurd (omega arith)
+  right_word m k t w None h e = cc
   right_word m k t w (Some l) h e =
       ⊎_elim
       (λ q. let tag : l.tag ≡ t = eqb-true l.tag t q in
@@ -130,7 +130,7 @@ module _ {M : Type 0} (r : Rules M) (laws : Laws r) where
       let is : l.word ≡ w = cc in
       subst (λ x. (is_steady (r.kind m (x * 4)) ≡ true) × (w ≡ number (bytes_at r m (x * 4) 4))) tag (h.1, sym is ∙ h.2))
       (λ q. let none : None ≡ Some w = rw q at e in
-      let z : ◌≡◌ {A = ℕ} 0 1 = cc in absurd (omega arith))
+      cc)
       (cases_Bool (eqb l.tag t))
 
   -- a held word serves every read of it
@@ -307,7 +307,7 @@ module _ {M : Type 0} (r : Rules M) (laws : Laws r) where
       let line : get_or ls (set_of a) None ≡ Some l = ap (λ x. get_or ls x None) (sym here) ∙ e in
       let found : word_for (a / 4) (Some l) ≡ None = sym (ap (word_for (a / 4)) line) ∙ held in
       let some : Some l.word ≡ None = rw (eq-eqb l.tag (a / 4) p) at found in
-      let z : ◌≡◌ {A = ℕ} 0 1 = cc in omega arith)
+      cc)
       (right k))
 
   -- what is held after a read that is kept

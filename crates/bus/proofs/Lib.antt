@@ -1,4 +1,3 @@
 pub mod Held
 pub mod Holding
-pub mod Sides
 pub mod Words
