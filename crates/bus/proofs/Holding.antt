@@ -64,14 +64,6 @@ accepted_value true Rom h f d n e = cc
 accepted_value true Memory h f d n e = refl
 accepted_value true Device h f d n e = refl
 
-refused_value : {N : Type 0} (b : Bool) (k : Kind) (h : Home) (f g : Fault) (d n : N) → cond b (writable {V = Unit {0}} k h tt) (Err f) ≡ Err g →
-    or_else d (cond b (writable k h n) (Err f)) ≡ d
-refused_value false k h f g d n e = refl
-refused_value true Absent h f g d n e = refl
-refused_value true Rom h f g d n e = refl
-refused_value true Memory h f g d n e = cc
-refused_value true Device h f g d n e = cc
-
 module _ {M : Type 0} (r : Rules M) (laws : Laws r) where
   -- the four bytes of the word that lies at an address
   bytes_of_word : (m : M) (b : ℕ) → word_bytes (number (bytes_at r m b 4)) ≡ bytes_at r m b 4
@@ -234,9 +226,6 @@ module _ {M : Type 0} (r : Rules M) (laws : Laws r) where
 
   pub accepts : (d m n : M) (s : Size) (a : ℕ) → write_answer r m s a ≡ Ok tt → or_else d (writing r m s a n) ≡ n
   accepts d m n s a ok = accepted_value (eqb (a % width s) 0) (r.kind m a) (r.home m a) _ d n ok
-
-  pub refuses : (m : M) (s : Size) (a v : ℕ) (f : Fault) → write_answer r m s a ≡ Err f → written r m s a v ≡ m
-  refuses m s a v f e = refused_value (eqb (a % width s) 0) (r.kind m a) (r.home m a) _ f m (stored_all r m a (low_bytes s v)) e
 
   -- the word that a write leaves below is the one that the cache makes of its own
   merged : (m : M) (s : Size) (a v w : ℕ) → a % width s ≡ 0 → Writable (r.kind m a) → w ≡ number (bytes_at r m (a / 4 * 4) 4) →
