@@ -1,10 +1,10 @@
 -- What a cache holds stays the word that lies below. Assumes nothing.
-use Rattle.std.proofs.Common.{◌≡◌, ℕ, zero, suc, ◌+◌, ◌*◌, ◌/◌, ◌%◌, ◌<◌, ◌≤◌, Bool, true, false, cond, ◌&&◌, eqb, ◌⊎◌, List, [], ◌∷◌, length, get_or, set, is_ok, Some, None, Ok, Err, Option, sym, refl, ap, ◌∙◌, subst, inl, inr, ⊎_elim, arith, length-set, get_or-set_other, get_or-set_same}
+use Rattle.std.proofs.Common.{◌≡◌, ℕ, zero, suc, ◌+◌, ◌*◌, ◌/◌, ◌%◌, ◌<◌, ◌≤◌, Bool, true, false, cond, eqb, ◌⊎◌, List, [], ◌∷◌, length, get_or, set, Some, None, Ok, Err, Option, sym, refl, ap, ◌∙◌, subst, inl, inr, ⊎_elim, arith, length-set, get_or-set_other, get_or-set_same}
 use Rattle.std.proofs.lemmas.Bool.{cases_Bool, cases_eq, cases_lt, eqb-true, eq-eqb}
 use Rattle.bus.specs.Bytes.{width, number, word_bytes, low_bytes}
 use Rattle.bus.specs.Block.{byte_in, bytes_in, patched}
-use Rattle.bus.specs.Rules.{Rules, Laws, Steady, Writable, readable, writable, or_else, bytes_at, stored_all, read_answer, writing, write_answer, written}
-use Rattle.bus.specs.Cache.{set_of, word_for, held_word, is_held, is_steady, RightLine, Right, keeps, held_after_read}
+use Rattle.bus.specs.Rules.{Rules, Laws, Writable, readable, writable, or_else, bytes_at, stored_all, read_answer, writing, write_answer, written}
+use Rattle.bus.specs.Cache.{set_of, word_for, held_word, is_steady, RightLine, Right}
 use Rattle.bus.specs.declared.line.Line.{Line}
 use Rattle.bus.specs.declared.kind.Kind.{Kind}
 use Rattle.bus.specs.declared.kind.Kind.TheVariants.{Absent, Rom, Memory, Device}
@@ -12,8 +12,11 @@ use Rattle.bus.specs.declared.fault.Home.{Home}
 use Rattle.bus.specs.declared.fault.Fault.{Fault}
 use Rattle.bus.specs.declared.size.Size.{Size}
 use Rattle.bus.specs.declared.size.Size.TheVariants.{Byte, Half, Word}
-use Rattle.bus.proofs.Held.{entry, held_set, held_hit}
 use Rattle.bus.proofs.Words.{word_of_four, length-patched, low_length}
+
+-- a line of the cache with a tag and a word
+abbrev pub entry : ℕ → ℕ → Option Line
+entry t w = Some (record { tag = t; word = w })
 
 -- an access of an aligned address stays within its word
 pub inside : (s : Size) (a : ℕ) → a % width s ≡ 0 → a % 4 + width s ≤ 4
@@ -26,12 +29,6 @@ read_steady Absent h v e = cc
 read_steady Rom h v e = refl
 read_steady Memory h v e = refl
 read_steady Device h v e = cc
-
-steady_is : (k : Kind) → is_steady k ≡ true → Steady k
-steady_is Absent e = cc
-steady_is Rom e = tt
-steady_is Memory e = tt
-steady_is Device e = cc
 
 unfoldable pub Below : List ℕ → Type 0
 Below [] = Unit {0}
@@ -132,17 +129,6 @@ module _ {M : Type 0} (r : Rules M) (laws : Laws r) where
       let is = right_word m (set_of a) (a / 4) w (get_or ls (set_of a) None) (right (set_of a)) e in
       read_part m s a w al is.0 is.1
 
-  -- a word put into its set leaves every line right
-  pub right_set : (m : M) (ls : List (Option Line)) (a w : ℕ) → Right r m ls → length ls ≡ 256 → is_steady (r.kind m (a / 4 * 4)) ≡ true →
-      w ≡ number (bytes_at r m (a / 4 * 4) 4) → Right r m (set ls (set_of a) (entry (a / 4) w))
-  right_set m ls a w right len st e k =
-      ⊎_elim
-      (λ q. subst (RightLine r m k)
-      (sym (ap (λ x. get_or (set ls (set_of a) (entry (a / 4) w)) x None) q ∙ get_or-set_same ls (set_of a) (entry (a / 4) w) None (omega arith)))
-      (sym q, st, e))
-      (λ q. subst (RightLine r m k) (sym (get_or-set_other ls (set_of a) k (entry (a / 4) w) None q)) (right k))
-      (cases_eq k (set_of a))
-
   four_agree : (m : M) (ws : List ℕ) (b : ℕ) → length ws ≡ 4 → ((j : ℕ) → j < 4 → r.byte m (b + j) ≡ get_or ws j 0) → bytes_at r m b 4 ≡ ws
   four_agree m (x ∷ y ∷ z ∷ u ∷ []) b e f =
       let e0 : b + 0 ≡ b = omega arith in
@@ -159,17 +145,6 @@ module _ {M : Type 0} (r : Rules M) (laws : Laws r) where
   four_agree m (x ∷ y ∷ z ∷ []) b e f = absurd (omega arith)
   four_agree m (x ∷ y ∷ z ∷ u ∷ q ∷ ws) b e f = absurd (omega arith)
 
-  -- right lines stay right where kinds and steady bytes do
-  line_kept : (m n : M) (k : ℕ) (o : Option Line) → ((t : ℕ) → is_steady (r.kind m (t * 4)) ≡ true →
-      (is_steady (r.kind n (t * 4)) ≡ true) × (number (bytes_at r m (t * 4) 4) ≡ number (bytes_at r n (t * 4) 4))) → RightLine r m k o → RightLine r n k o
-  line_kept m n k None f h = tt
-  line_kept m n k (Some l) f h = (h.0, (f l.tag h.1).0, h.2 ∙ (f l.tag h.1).1)
-
-  steady_byte : (m : M) (t k : ℕ) → k < 4 → is_steady (r.kind m (t * 4)) ≡ true → Steady (r.kind m (t * 4 + k))
-  steady_byte m t k h st =
-      let e : (t * 4 + k) / 4 * 4 ≡ t * 4 = omega arith in
-      steady_is (r.kind m (t * 4 + k)) (ap is_steady (laws.word_kind m (t * 4 + k) ∙ ap (r.kind m) e) ∙ st)
-
   -- four bytes that are the same one by one
   same_four : (m n : M) (b : ℕ) → ((k : ℕ) → k < 4 → r.byte m (b + k) ≡ r.byte n (b + k)) → bytes_at r m b 4 ≡ bytes_at r n b 4
   same_four m n b f =
@@ -181,15 +156,6 @@ module _ {M : Type 0} (r : Rules M) (laws : Laws r) where
       let f2 : r.byte m (b + 1 + 1) ≡ r.byte n (b + 1 + 1) = rw e2 at (f 2 (omega arith)) in
       let f3 : r.byte m (b + 1 + 1 + 1) ≡ r.byte n (b + 1 + 1 + 1) = rw e3 at (f 3 (omega arith)) in
       rw (f0, f1, f2, f3)
-
-  pub right_ticked : (m : M) (ls : List (Option Line)) → Right r m ls → Right r (r.ticked m) ls
-  right_ticked m ls right k =
-      line_kept m (r.ticked m) k (get_or ls k None)
-      (λ t st. (
-        ap is_steady (laws.ticked_kind m (t * 4)) ∙ st,
-        ap number (same_four m (r.ticked m) (t * 4) (λ j h. sym (laws.ticked_byte m (t * 4 + j) (steady_byte m t j h st)))),
-      ))
-      (right k)
 
   pub stored_kinds : (m : M) (a : ℕ) (bs : List ℕ) (c : ℕ) → r.kind (stored_all r m a bs) c ≡ r.kind m c
   stored_kinds m a [] c = refl
@@ -298,22 +264,3 @@ module _ {M : Type 0} (r : Rules M) (laws : Laws r) where
       let some : Some l.word ≡ None = rw (eq-eqb l.tag (a / 4) p) at found in
       cc)
       (right k))
-
-  -- what is held after a read that is kept
-  after_kept : (m : M) (ls : List (Option Line)) (s : Size) (a x b : ℕ) → read_answer r m s a ≡ Ok x → is_steady (r.kind m a) ≡ true →
-      held_after_read r m ls s a b ≡ cond (eqb (set_of b) (set_of a)) (eqb (b / 4) (a / 4)) (is_held ls b)
-  after_kept m ls s a x b ok st =
-      let kept : keeps r m s a ≡ true = ap (λ t. is_ok t && is_steady (r.kind m a)) ok ∙ st in
-      ap (λ t. cond (t && eqb (set_of b) (set_of a)) (eqb (b / 4) (a / 4)) (is_held ls b)) kept
-
-  pub hit_kept : (m : M) (ls : List (Option Line)) (s : Size) (a w b : ℕ) → Right r m ls → a % width s ≡ 0 → held_word ls a ≡ Some w →
-      is_held ls b ≡ held_after_read r m ls s a b
-  hit_kept m ls s a w b right al held =
-      let is = right_word m (set_of a) (a / 4) w (get_or ls (set_of a) None) (right (set_of a)) held in
-      held_hit ls a w b held ∙ sym (after_kept m ls s a _ b (read_held m ls s a w right al held) (ap is_steady (laws.word_kind m a) ∙ is.0))
-
-  pub fill_kept : (m : M) (ls : List (Option Line)) (s : Size) (a w b : ℕ) → length ls ≡ 256 → a % width s ≡ 0 → is_steady (r.kind m a) ≡ true →
-      is_held (set ls (set_of a) (entry (a / 4) w)) b ≡ held_after_read r m ls s a b
-  fill_kept m ls s a w b len al st =
-      let whole : is_steady (r.kind m (a / 4 * 4)) ≡ true = ap is_steady (sym (laws.word_kind m a)) ∙ st in
-      held_set ls a w b len ∙ sym (after_kept m ls s a _ b (read_part m s a (number (bytes_at r m (a / 4 * 4) 4)) al whole refl) st)

@@ -1,5 +1,5 @@
 -- Words and their four bytes, and blocks of bytes with some replaced. Assumes nothing.
-use Rattle.std.proofs.Common.{◌≡◌, ℕ, zero, suc, ◌+◌, ◌*◌, ◌/◌, ◌%◌, ◌<◌, List, [], ◌∷◌, length, get_or, set, replicate, refl, ◌∙◌, arith, length-set}
+use Rattle.std.proofs.Common.{◌≡◌, ℕ, zero, suc, ◌+◌, ◌/◌, ◌%◌, ◌<◌, List, [], ◌∷◌, length, get_or, set, replicate, refl, ◌∙◌, arith, length-set}
 use Rattle.bus.specs.Bytes.{width, number, word_bytes, low_bytes}
 use Rattle.bus.specs.Block.{patched}
 use Rattle.bus.specs.declared.size.Size.{Size}
@@ -8,14 +8,6 @@ use Rattle.bus.specs.declared.size.Size.TheVariants.{Byte, Half, Word}
 pub length-patched : (xs : List ℕ) (a : ℕ) (bs : List ℕ) → length (patched xs a bs) ≡ length xs
 length-patched xs a [] = refl
 length-patched xs a (b ∷ bs) = length-patched (set xs a b) (a + 1) bs ∙ length-set xs a b
-
-pub number_of_four : (xs : List ℕ) → length xs ≡ 4 → number xs ≡ get_or xs 0 0 * 16777216 + get_or xs 1 0 * 65536 + get_or xs 2 0 * 256 + get_or xs 3 0
-number_of_four (a ∷ b ∷ c ∷ d ∷ []) e = omega arith
-number_of_four [] e = absurd (omega arith)
-number_of_four (a ∷ []) e = absurd (omega arith)
-number_of_four (a ∷ b ∷ []) e = absurd (omega arith)
-number_of_four (a ∷ b ∷ c ∷ []) e = absurd (omega arith)
-number_of_four (a ∷ b ∷ c ∷ d ∷ x ∷ xs) e = absurd (omega arith)
 
 -- the bytes of the word that four bytes make are those four
 pub word_of_four : (a b c d : ℕ) → a < 256 → b < 256 → c < 256 → d < 256 → word_bytes (number (a ∷ b ∷ c ∷ d ∷ [])) ≡ a ∷ b ∷ c ∷ d ∷ []

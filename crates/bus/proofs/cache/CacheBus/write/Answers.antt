@@ -1,8 +1,7 @@
 use Rattle.std.proofs.Common.{◌≡◌, ◌/◌, set, Some, None, Ok, sym, ap, ◌∙◌, subst}
 use Rattle.bus.specs.Cache.{Right, held_word, set_of}
 use Rattle.bus.specs.Rules.{write_answer}
-use Rattle.bus.proofs.Held.{entry}
-use Rattle.bus.proofs.Holding.{right_written, right_written_free}
+use Rattle.bus.proofs.Holding.{entry, right_written, right_written_free}
 use Rattle.bus.proofs.cache.CacheBus.write.Goals as goal
 
 pub returns-in-Some-clause-sound : goal.returns-in-Some-clause-sound
@@ -17,8 +16,7 @@ returns-in-Some-clause-sound g c =
     let held : held_word ls a ≡ Some w = sym c.find.ensures ∙ c.in-Some.is in
     let meaning = ap b.means c.keep.ensures.below ∙ c.write.ensures.meaning in
     let lines = c.keep.ensures.lines ∙ ap (λ x. set ls (set_of a) (entry (a / 4) x)) c.merge.ensures in
-    let right = right_written b.rules g.met.B.Bus.lawful m ls s a c.args.value w c.requires.1 c.args.self.now.sets ok held in
-    (
+    let right = right_written b.rules g.met.B.Bus.lawful m ls s a c.args.value w c.requires.1 c.args.self.now.sets ok held in (
       subst b.sound (sym c.keep.ensures.below) c.write.ensures.sound,
       subst (λ n. Right b.rules n c.keep.new.self.lines) (sym meaning) (subst (Right b.rules _) (sym lines) right),
     )
