@@ -1,9 +1,8 @@
-use Rattle.std.proofs.Common.{◌≡◌, ◌*◌, ◌/◌, ◌%◌, true, Some, Ok, sym, ap, ◌∙◌}
+use Rattle.std.proofs.Common.{◌≡◌, ◌%◌, true, Some, Ok, sym, ap, ◌∙◌}
 use Rattle.std.proofs.lemmas.Bool.{eqb-true}
-use Rattle.bus.specs.Bytes.{width, number}
+use Rattle.bus.specs.Bytes.{width}
 use Rattle.bus.specs.Cache.{held_word, is_steady}
-use Rattle.bus.specs.Rules.{bytes_at}
-use Rattle.bus.proofs.Holding.{read_held, read_word, read_part}
+use Rattle.bus.proofs.Holding.{read_held, read_whole, read_part}
 use Rattle.bus.proofs.cache.CacheBus.read.Goals as goal
 
 pub returns-in-Some-clause-answer : goal.returns-in-Some-clause-answer
@@ -14,8 +13,8 @@ returns-in-Some-clause-answer g c =
     let s = c.args.size in
     let a = c.args.address in
     let al : a % width s ≡ 0 = eqb-true (a % width s) 0 (sym c.is_aligned.ensures.value ∙ c.if-is_aligned.true) in
-    let held : held_word ls a ≡ Some c.in-Some.word = sym c.find.ensures ∙ c.in-Some.is in
-    ap Ok c.part.ensures ∙ sym (read_held b.rules g.met.B.Bus.lawful m ls s a c.in-Some.word c.requires.1 al held)
+    let held : held_word old.lines a ≡ Some c.in-Some.word = sym c.find.ensures ∙ c.in-Some.is in
+    ap Ok c.part.ensures ∙ sym (read_held b.rules g.met.B.Bus.lawful m old.lines s a c.in-Some.word old.right al held)
 
 pub returns-then-is_steady-clause-answer : goal.returns-then-is_steady-clause-answer
 returns-then-is_steady-clause-answer g c =
@@ -27,7 +26,5 @@ returns-then-is_steady-clause-answer g c =
     let w = c.in_ok-word.word in
     let al : a % width s ≡ 0 = eqb-true (a % width s) 0 (sym c.is_aligned.ensures.value ∙ c.if-is_aligned.true) in
     let st : is_steady (b.rules.kind m a) ≡ true = ap is_steady (sym c.kind.ensures) ∙ sym c.is_steady.ensures ∙ c.if-is_steady.true in
-    let whole : is_steady (b.rules.kind m (a / 4 * 4)) ≡ true = ap is_steady (sym (law.word_kind m a)) ∙ st in
-    let got : Ok w ≡ Ok (number (bytes_at b.rules m (a / 4 * 4) 4)) = sym c.in_ok-word.was ∙ c.read.ensures.answer ∙ read_word b.rules law m a st in
-    let word : w ≡ number (bytes_at b.rules m (a / 4 * 4) 4) = cc in
-    ap Ok c.part-then-is_steady.ensures ∙ sym (read_part b.rules law m s a w al whole word)
+    let whole = read_whole b.rules law m a w st (sym c.in_ok-word.was ∙ c.read.ensures.answer) in
+    ap Ok c.part-then-is_steady.ensures ∙ sym (read_part b.rules law m s a w al whole.0 whole.1)
