@@ -7,8 +7,5 @@ use cpu::{Config, vet};
 pub fn board_config() -> Config
     ensures value { result ≡ configuration 0x00101137 0x00000000 0x00000800 }
 {
-    match vet(0x0010_1137, 0x0000_0000, 0x0000_0800) {
-        Ok(config) => config,
-        Err(_) => unreachable(),
-    }
+    vet(0x0010_1137, 0x0000_0000, 0x0000_0800).unwrap()
 }
