@@ -2,8 +2,6 @@
 use Rattle.std.specs.Prelude.{◌≡◌, T, vec_items, slice_set}
 use Rattle.conformance.specs.Ending.{ending_of, allowed, counted}
 use Rattle.conformance.specs.declared.case.Case.{Case}
-use Rattle.conformance.specs.declared.comparing.Verdict.{Verdict}
-use Rattle.conformance.specs.declared.comparing.Verdict.TheVariants.{Same, Differs}
 use Rattle.conformance.specs.declared.machine.Outcome.{Outcome}
 
 -- every register that is shown, every byte of memory, the ending and the steps; CC, at index 39, counts the steps
@@ -13,8 +11,3 @@ Agrees c o =
     × (vec_items o.memory ≡ c.end.memory)
     × (o.ending ≡ ending_of c.name.now)
     × T (allowed c.name.now c.steps (counted o.done o.taken))
-
--- what a verdict says
-abbrev pub Says : Verdict → Type 0 → Type 0
-Says Same P = P
-Says (Differs list) P = Unit {0}

@@ -1,17 +1,11 @@
 // Compares what the board told with what the simulator ended a case with.
-ghost use Rattle.std.specs.Prelude.{T, IfOk};
-ghost use Rattle.conformance.specs.Agreement.{Agrees, Says};
+ghost use Rattle.std.specs.Prelude.{T, IfOk, OnOk};
+ghost use Rattle.conformance.specs.Agreement.{Agrees};
 
 use crate::case::Case;
 use crate::difference::Difference;
 use crate::machine::Outcome;
 use std::alloc::{AllocError, Global};
-
-#[derive(Drop)]
-pub(crate) enum Verdict {
-    Same,
-    Differs(Vec<Difference>),
-}
 
 // Whether everything is as the case says.
 fn agree(case: &Case<'_>, outcome: &Outcome) -> bool
@@ -24,33 +18,18 @@ fn agree(case: &Case<'_>, outcome: &Outcome) -> bool
     same_shown && same_memory && outcome.ending == case.ending() && case.allows(made)
 }
 
-fn list_registers(
+// Lists the values that are not as expected, as `difference` makes them of a place, what is expected there and what is found.
+fn list_values<T: Copy + PartialEq, F: Fn(usize, T, T) -> Difference>(
     list: &mut Vec<Difference>,
-    expected: &[u32],
-    found: &[u32],
-) -> Result<(), AllocError> {
-    for (index, (expected, found)) in expected.iter().zip(found.iter()).enumerate() {
-        let (expected, found) = (*expected, *found);
+    expected: &[T],
+    found: &[T],
+    difference: F,
+) -> Result<(), AllocError>
+    requires { F.IsAlwaysCallable difference }
+{
+    for (place, (expected, found)) in expected.iter().zip(found).enumerate() {
         if expected != found {
-            list.push(Difference::Register {
-                index,
-                expected,
-                found,
-            })?;
-        }
-    }
-    Ok(())
-}
-
-fn list_bytes(list: &mut Vec<Difference>, expected: &[u8], found: &[u8]) -> Result<(), AllocError> {
-    for (address, (expected, found)) in expected.iter().zip(found.iter()).enumerate() {
-        let (expected, found) = (*expected, *found);
-        if expected != found {
-            list.push(Difference::Byte {
-                address,
-                expected,
-                found,
-            })?;
+            list.push(difference(place, *expected, *found))?;
         }
     }
     Ok(())
@@ -72,22 +51,40 @@ fn differences(
         let (expected, found) = (case.steps, made);
         list.push(Difference::Steps { expected, found })?;
     }
-    list_registers(&mut list, &case.shown_after(made), &outcome.shown)?;
-    list_bytes(&mut list, &case.end.memory, &outcome.memory)?;
+    list_values(
+        &mut list,
+        &case.shown_after(made),
+        &outcome.shown,
+        |index, expected, found| Difference::Register {
+            index,
+            expected,
+            found,
+        },
+    )?;
+    list_values(
+        &mut list,
+        &case.end.memory,
+        &outcome.memory,
+        |address, expected, found| Difference::Byte {
+            address,
+            expected,
+            found,
+        },
+    )?;
     Ok(list)
 }
 
-// How a run compares with its case. `Same` is told only where every register, every byte, the ending and the steps are as the case says.
+// How a run compares with its case. `Ok` is told only where every register, every byte, the ending and the steps are as the case says.
 pub(crate) fn compare(
     heap: Global,
     case: &Case<'_>,
     outcome: &Outcome,
-) -> Result<Verdict, AllocError>
-    ensures { IfOk result (λ v. Says v (Agrees case.now outcome.now)) }
+) -> Result<Result<(), Vec<Difference>>, AllocError>
+    ensures { IfOk result (λ verdict. OnOk verdict (Agrees case.now outcome.now)) }
 {
     if agree(case, outcome) {
-        Ok(Verdict::Same)
+        Ok(Ok(()))
     } else {
-        Ok(Verdict::Differs(differences(heap, case, outcome)?))
+        Ok(Err(differences(heap, case, outcome)?))
     }
 }

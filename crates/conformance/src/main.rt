@@ -9,7 +9,7 @@ mod reading;
 mod tally;
 
 use anyhow::anyhow;
-use comparing::{Verdict, compare};
+use comparing::compare;
 use difference::Difference;
 use machine::run_case;
 use reading::read_case;
@@ -21,7 +21,7 @@ use tally::Tally;
 const FEW: usize = 6;
 
 // The name of a line's case, and how it compares.
-fn check_line(heap: Global, line: &str) -> anyhow::Result<(&str, Verdict)> {
+fn check_line(heap: Global, line: &str) -> anyhow::Result<(&str, Result<(), Vec<Difference>>)> {
     let case = read_case(heap, line)?;
     let outcome = run_case(heap, &case)?;
     let verdict = compare(heap, &case, &outcome)?;
@@ -50,7 +50,7 @@ fn check_lines<'a>(rt: &HostRuntime, text: &'a str) -> anyhow::Result<Tally<'a>>
         match check_line(rt.alloc(), line) {
             Ok((name, verdict)) => {
                 tally.count_name(name)?;
-                if let Verdict::Differs(list) = verdict {
+                if let Err(list) = verdict {
                     tally.count_difference();
                     print_differences(rt, number, name, &list)?;
                 }
