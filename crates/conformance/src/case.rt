@@ -44,9 +44,7 @@ impl State {
     // The start that all cases share, but for the registers and bytes that a line names.
     pub(crate) fn first() -> State {
         let mut shown = [0; SHOWN];
-        for register in 0..REGISTERS {
-            shown[register] = 0xA5A5_A5A5;
-        }
+        shown[..REGISTERS].fill(0xA5A5_A5A5);
         shown[PC] = ORIGIN;
         shown[EBA] = ORIGIN;
         shown[DEBA] = DEBUG_BASE;
@@ -59,9 +57,14 @@ impl State {
     pub(crate) fn registers(&self) -> [u32; REGISTERS]
         ensures value { result ≡ take 32 self.now.shown }
     {
-        let mut registers = [0; REGISTERS];
-        registers.copy_from_slice(&self.shown[0..REGISTERS]);
-        registers
+        *self.shown.first_chunk().unwrap()
+    }
+
+    // Puts values where their indices say; what they do not name stays.
+    pub(crate) fn put(&mut self, values: &[Option<u32>]) {
+        for (shown, value) in self.shown.iter_mut().zip(values) {
+            *shown = value.unwrap_or(*shown);
+        }
     }
 }
 

@@ -11,11 +11,11 @@ use std::alloc::{AllocError, Global};
 fn agree(case: &Case<'_>, outcome: &Outcome) -> bool
     ensures { T result → Agrees case.now outcome.now }
 {
-    let made = outcome.made();
+    let made = outcome.course.made();
     let shown = case.shown_after(made);
     let same_shown = outcome.shown.as_slice() == shown.as_slice();
     let same_memory = outcome.memory.as_slice() == case.end.memory.as_slice();
-    same_shown && same_memory && outcome.ending == case.ending() && case.allows(made)
+    same_shown && same_memory && outcome.course.ending == case.ending() && case.allows(made)
 }
 
 // Lists the values that are not as expected, as `difference` makes them of a place, what is expected there and what is found.
@@ -42,9 +42,9 @@ fn differences(
     outcome: &Outcome,
 ) -> Result<Vec<Difference>, AllocError> {
     let mut list = Vec::new(heap);
-    let made = outcome.made();
-    if outcome.ending != case.ending() {
-        let (expected, found) = (case.ending(), outcome.ending);
+    let made = outcome.course.made();
+    if outcome.course.ending != case.ending() {
+        let (expected, found) = (case.ending(), outcome.course.ending);
         list.push(Difference::Ending { expected, found })?;
     }
     if !case.allows(made) {

@@ -4,7 +4,7 @@ ghost use Rattle.cpu.specs.Config.{configuration};
 ghost use Rattle.conformance.specs.Ending.{counted};
 
 use crate::case::{Case, DEBUG_BASE, MEMORY, ORIGIN, SHOWN};
-use anyhow::anyhow;
+use anyhow::bail;
 use cpu::{Config, vet};
 use layout::board_bus;
 use script::{Call, Reply, play};
@@ -13,23 +13,29 @@ use std::alloc::{AllocError, Global};
 // How many bytes a line of an image has here.
 const WIDTH: usize = 32;
 
-// What a run answered, and what `show` and `look` told after it, in the order of their indices and addresses.
-#[derive(Drop)]
-pub(crate) struct Outcome {
+// How a run went: how many steps were done and taken, and what it ended with, 0 or the number of the stop.
+#[derive(Clone, Copy)]
+pub(crate) struct Course {
     pub(crate) done: u32,
     pub(crate) taken: u32,
     pub(crate) ending: u32,
-    pub(crate) shown: Vec<u32>,
-    pub(crate) memory: Vec<u8>,
 }
 
-impl Outcome {
+impl Course {
     // How many steps were made, counted as CC counts; a stop is none.
-    pub(crate) fn made(&self) -> u32
-        ensures value { result ≡ counted self.now.done self.now.taken }
+    pub(crate) fn made(self) -> u32
+        ensures value { result ≡ counted self.done self.taken }
     {
         self.done.wrapping_add(self.taken)
     }
+}
+
+// What a run answered, and what `show` and `look` told after it, in the order of their indices and addresses.
+#[derive(Drop)]
+pub(crate) struct Outcome {
+    pub(crate) course: Course,
+    pub(crate) shown: Vec<u32>,
+    pub(crate) memory: Vec<u8>,
 }
 
 // The configuration of `trace`, but for the first EBA and with it the first PC.
@@ -42,65 +48,68 @@ fn config() -> Config
     }
 }
 
-// The line of an image that puts bytes to an address.
-fn data_line(heap: Global, address: usize, bytes: &[u8]) -> Result<String, AllocError> {
-    let mut line = format!(in heap; "M,{address:08X},")?;
+// Writes the line of an image that puts bytes to an address.
+fn write_line(image: &mut String, address: usize, bytes: &[u8]) -> Result<(), AllocError> {
+    write!(image, "M,{address:08X},")?;
     for byte in bytes {
-        line.push_str(format!(in heap; "{byte:02X}")?.as_str())?;
+        write!(image, "{byte:02X}")?;
     }
-    line.push('\n')?;
-    Ok(line)
+    image.push('\n')
 }
 
 // The image that makes memory like this. It has no lines of zeros: memory is zero first.
 fn image_of(heap: Global, memory: &[u8; MEMORY]) -> Result<String, AllocError> {
+    let lines: Vec<(usize, &[u8])> = (0..MEMORY)
+        .step_by(WIDTH)
+        .zip(memory.chunks(WIDTH))
+        .filter(|(_, bytes)| bytes.iter().any(|byte| *byte != 0))
+        .collect(heap)?;
     let mut image = String::new(heap);
-    let mut count = 0usize;
-    for line in 0..MEMORY / WIDTH {
-        let address = WIDTH * line;
-        let bytes = &memory[address..address + WIDTH];
-        if bytes != [0; WIDTH].as_slice() {
-            image.push_str(data_line(heap, address, bytes)?.as_str())?;
-            count += 1;
-        }
+    for (address, bytes) in &lines {
+        write_line(&mut image, *address, bytes)?;
     }
-    image.push_str(format!(in heap; "E,{count:08X}\n")?.as_str())?;
+    let count = lines.len();
+    write!(image, "E,{count:08X}\n")?;
     Ok(image)
 }
 
 // Load, run, show everything, and look at every byte.
 fn calls_of(heap: Global, image: &[u8], steps: u32) -> Result<Vec<Call<'_>>, AllocError> {
-    let mut calls = Vec::new(heap);
-    calls.push(Call::Load(image))?;
-    calls.push(Call::Run(steps))?;
-    for index in 0..SHOWN {
-        calls.push(Call::Show(index as u32))?;
+    let mut calls = vec![in heap; Call::Load(image), Call::Run(steps)]?;
+    // By hand: the check covers no `map` by a function whose result has a lifetime that no argument names.
+    for index in 0..SHOWN as u32 {
+        calls.push(Call::Show(index))?;
     }
-    for address in 0..MEMORY {
-        calls.push(Call::Look(address as u32))?;
+    for address in 0..MEMORY as u32 {
+        calls.push(Call::Look(address))?;
     }
     Ok(calls)
 }
 
+// What the replies to those calls told.
 fn outcome_of(heap: Global, replies: &[Reply]) -> anyhow::Result<Outcome> {
+    let [
+        Reply::Load(Ok(_)),
+        Reply::Run(done, taken, ending),
+        told @ ..,
+    ] = replies
+    else {
+        bail!("the board refuses a call");
+    };
     let mut outcome = Outcome {
-        done: 0,
-        taken: 0,
-        ending: 0,
+        course: Course {
+            done: *done,
+            taken: *taken,
+            ending: *ending,
+        },
         shown: Vec::new(heap),
         memory: Vec::new(heap),
     };
-    for reply in replies {
+    for reply in told {
         match *reply {
-            Reply::Load(Ok(_)) => {}
-            Reply::Run(done, taken, ending) => {
-                outcome.done = done;
-                outcome.taken = taken;
-                outcome.ending = ending;
-            }
             Reply::Show(Ok(value)) => outcome.shown.push(value)?,
             Reply::Look(Ok(byte)) => outcome.memory.push(byte)?,
-            _ => return Err(anyhow!("the board refuses a call")),
+            _ => bail!("the board refuses a call"),
         }
     }
     Ok(outcome)

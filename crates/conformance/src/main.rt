@@ -8,7 +8,7 @@ mod machine;
 mod reading;
 mod tally;
 
-use anyhow::anyhow;
+use anyhow::ensure;
 use comparing::compare;
 use difference::Difference;
 use machine::run_case;
@@ -68,11 +68,8 @@ fn check_file(rt: &HostRuntime) -> anyhow::Result<()> {
     let text = fs::read_to_string(rt, "vectors.txt")?;
     let tally = check_lines(rt, text.as_str())?;
     tally.print(rt)?;
-    if tally.is_clean() {
-        Ok(())
-    } else {
-        Err(anyhow!("the board and the simulator differ"))
-    }
+    ensure!(tally.is_clean(), "the board and the simulator differ");
+    Ok(())
 }
 
 fn main(rt: HostRuntime) -> anyhow::Result<()> {

@@ -2,7 +2,7 @@
 ghost use Rattle.std.specs.Prelude.{◌<◌, ◌≤◌, length, IfOk};
 
 use crate::case::{Case, ORIGIN, PC, REGISTERS, State, TOLD};
-use anyhow::anyhow;
+use anyhow::{Context, bail, ensure};
 use std::alloc::Global;
 
 // What stands for a list with nothing in it.
@@ -11,35 +11,24 @@ const NOTHING: &str = "-";
 // How many digits the 32 bytes have that may stand behind one address.
 const LONGEST: usize = 64;
 
-// No PC is this, since each is a multiple of 4.
-const NO_PC: u32 = 1;
-
 fn read_byte(digits: &[u8]) -> anyhow::Result<u8> {
     let [high, low] = digits else {
-        return Err(anyhow!("a byte has not two digits"));
+        bail!("a byte has not two digits");
     };
-    match hex_text::byte(*high, *low) {
-        Some(byte) => Ok(byte),
-        None => Err(anyhow!("a digit is none of 0 to 9 and A to F")),
-    }
+    hex_text::byte(*high, *low).context("a digit is none of 0 to 9 and A to F")
 }
 
 fn read_word(digits: &str) -> anyhow::Result<u32> {
-    match hex_text::word(digits.as_bytes()) {
-        Some(word) => Ok(word),
-        None => Err(anyhow!("a word has not eight digits of 0 to 9 and A to F")),
-    }
+    hex_text::word(digits.as_bytes()).context("a word has not eight digits of 0 to 9 and A to F")
 }
 
 fn check_name(name: &str) -> anyhow::Result<()> {
-    if name.is_empty() {
-        return Err(anyhow!("NAME is empty"));
-    }
-    for byte in name.bytes() {
-        if !matches!(byte, b'a'..=b'z' | b'0'..=b'9' | b'_') {
-            return Err(anyhow!("NAME has other characters than a to z, 0 to 9 and _"));
-        }
-    }
+    ensure!(!name.is_empty(), "NAME is empty");
+    ensure!(
+        name.bytes()
+            .all(|byte| matches!(byte, b'a'..=b'z' | b'0'..=b'9' | b'_')),
+        "NAME has other characters than a to z, 0 to 9 and _"
+    );
     Ok(())
 }
 
@@ -47,9 +36,7 @@ fn read_steps(digits: &str) -> anyhow::Result<u32>
     ensures bound { (IfOk result (λ n. 0 < n)) × (IfOk result (λ n. n < 256)) }
 {
     let steps = read_byte(digits.as_bytes())?;
-    if steps == 0 {
-        return Err(anyhow!("STEPS is 0"));
-    }
+    ensure!(steps != 0, "STEPS is 0");
     Ok(u32::from(steps))
 }
 
@@ -58,26 +45,23 @@ fn lay(memory: &mut [u8], address: usize, digits: &str) -> anyhow::Result<usize>
     ensures bound { IfOk result (λ behind. behind ≤ length memory.new) }
     ensures some { IfOk result (λ behind. address < behind) }
 {
-    let mut at = address;
+    let end = memory.len();
+    let mut room = memory.get_mut(address..).unwrap_or_default().iter_mut();
     for pair in digits.as_bytes().chunks(2) {
         let byte = read_byte(pair)?;
-        if at >= memory.len() {
-            return Err(anyhow!("a byte lies outside memory"));
-        }
-        memory[at] = byte;
-        at += 1;
+        *room.next().context("a byte lies outside memory")? = byte;
     }
-    if at <= address {
-        return Err(anyhow!("there are no bytes"));
-    }
-    Ok(at)
+    let behind = end - room.len();
+    ensure!(address < behind, "there are no bytes");
+    Ok(behind)
 }
 
 // Lays WORDS.
 fn read_words(digits: &str, memory: &mut [u8]) -> anyhow::Result<()> {
-    if digits.len() % 8 != 0 {
-        return Err(anyhow!("WORDS has not eight digits for each word"));
-    }
+    ensure!(
+        digits.len() % 8 == 0,
+        "WORDS has not eight digits for each word"
+    );
     lay(memory, ORIGIN as usize, digits)?;
     Ok(())
 }
@@ -89,47 +73,38 @@ fn read_pieces(text: &str, memory: &mut [u8]) -> anyhow::Result<()> {
     }
     let mut free = 0;
     for piece in text.split(',') {
-        let Some((address, digits)) = piece.split_once('=') else {
-            return Err(anyhow!("bytes of memory have no '='"));
-        };
+        let (address, digits) = piece
+            .split_once('=')
+            .context("bytes of memory have no '='")?;
         let address = read_word(address)? as usize;
-        if address < free {
-            return Err(anyhow!("addresses do not rise"));
-        }
-        if digits.len() > LONGEST {
-            return Err(anyhow!("an address has more than 32 bytes"));
-        }
+        ensure!(address >= free, "addresses do not rise");
+        ensure!(digits.len() <= LONGEST, "an address has more than 32 bytes");
         free = lay(memory, address, digits)?;
     }
     Ok(())
 }
 
-// Puts the values of START or END where their indices say.
-fn read_values(text: &str, values: &mut [u32]) -> anyhow::Result<()> {
+// The values of START or END by their indices, each where the list names it.
+fn read_values<const COUNT: usize>(text: &str) -> anyhow::Result<[Option<u32>; COUNT]> {
+    let mut values = [None; COUNT];
     if text == NOTHING {
-        return Ok(());
+        return Ok(values);
     }
     let mut free = 0;
     for item in text.split(',') {
-        let Some((index, value)) = item.split_once('=') else {
-            return Err(anyhow!("a value has no '='"));
-        };
-        let index = read_byte(index.as_bytes())? as usize;
-        if index < free {
-            return Err(anyhow!("indices do not rise"));
-        }
-        if index >= values.len() {
-            return Err(anyhow!("an index is too large"));
-        }
-        values[index] = read_word(value)?;
+        let (index, value) = item.split_once('=').context("a value has no '='")?;
+        let index = usize::from(read_byte(index.as_bytes())?);
+        ensure!(index >= free, "indices do not rise");
+        let named = values.get_mut(index).context("an index is too large")?;
+        *named = Some(read_word(value)?);
         free = index + 1;
     }
-    Ok(())
+    Ok(values)
 }
 
 fn read_start(values: &str, words: &str, data: &str) -> anyhow::Result<State> {
     let mut start = State::first();
-    read_values(values, &mut start.shown[0..REGISTERS])?;
+    start.put(&read_values::<REGISTERS>(values)?);
     read_words(words, &mut start.memory)?;
     read_pieces(data, &mut start.memory)?;
     Ok(start)
@@ -138,11 +113,9 @@ fn read_start(values: &str, words: &str, data: &str) -> anyhow::Result<State> {
 // What END and ENDMEM do not name is as at the start, but for PC, which END always has.
 fn read_end(start: State, values: &str, data: &str) -> anyhow::Result<State> {
     let mut end = start;
-    end.shown[PC] = NO_PC;
-    read_values(values, &mut end.shown[0..TOLD])?;
-    if end.shown[PC] == NO_PC {
-        return Err(anyhow!("END has no PC"));
-    }
+    let values = read_values::<TOLD>(values)?;
+    ensure!(values[PC].is_some(), "END has no PC");
+    end.put(&values);
     read_pieces(data, &mut end.memory)?;
     Ok(end)
 }
@@ -151,7 +124,7 @@ fn read_end(start: State, values: &str, data: &str) -> anyhow::Result<State> {
 pub(crate) fn read_case(heap: Global, line: &str) -> anyhow::Result<Case<'_>> {
     let fields: Vec<&str> = line.split(' ').collect(heap)?;
     let [name, steps, values, words, data, end_values, end_data] = fields.as_slice() else {
-        return Err(anyhow!("there are not seven fields"));
+        bail!("there are not seven fields");
     };
     check_name(name)?;
     let steps = read_steps(steps)?;
