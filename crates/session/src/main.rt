@@ -3,69 +3,33 @@
 
 mod reading;
 mod replies;
+mod request;
 
-use anyhow::anyhow;
-use bus::Bus;
+use anyhow::{Context, anyhow};
 use layout::{board_bus, board_config};
-use reading::{Request, read_request};
-use replies::print_reply;
+use reading::read_request;
+use replies::Told;
+use request::Request;
 use script::{Call, play};
-use std::alloc::{AllocError, Global};
 use std::fs;
 use std::io::Read;
 
-// The calls of some requests, with the images that they load.
-fn calls_of<'a>(
-    heap: Global,
-    requests: &[Request],
-    images: &'a [Vec<u8>],
-) -> Result<Vec<Call<'a>>, AllocError> {
-    let mut calls = Vec::new(heap);
-    for request in requests {
-        let call = match *request {
-            Request::Load(k) if k < images.len() => Call::Load(images[k].as_slice()),
-            Request::Load(_) => Call::Load(&[]),
-            Request::Lines(word) => Call::Lines(word),
-            Request::Look(address) => Call::Look(address),
-            Request::Show(index) => Call::Show(index),
-            Request::Step => Call::Step,
-            Request::Run(budget) => Call::Run(budget),
-        };
-        calls.push(call)?;
-    }
-    Ok(calls)
-}
-
-// A script: its calls, and the images that they load.
-#[derive(Drop)]
-struct Script {
-    requests: Vec<Request>,
-    images: Vec<Vec<u8>>,
-}
-
-fn read_script(rt: &HostRuntime, text: &str) -> anyhow::Result<Script> {
-    let heap = rt.alloc();
-    let mut images = Vec::new(heap);
-    let mut requests = Vec::new(heap);
-    for line in text.lines() {
-        let Some(request) = read_request(line, images.len()) else {
-            return Err(anyhow!(format!(in heap; "this line is no call: {line}")?));
-        };
-        if let Some(name) = line.strip_prefix("load ") {
-            let Ok(image) = fs::read(rt, name) else {
-                return Err(anyhow!(format!(in heap; "this file cannot be read: {name}")?));
-            };
-            images.push(image)?;
-        }
-        requests.push(request)?;
-    }
-    Ok(Script { requests, images })
+// The call of a line, with the bytes of the image that it loads.
+fn read_line(rt: &HostRuntime, line: &str) -> anyhow::Result<Request<Vec<u8>>> {
+    read_request(line)
+        .context(format_args!("this line is no call: {line}"))?
+        .try_map_image(|name| {
+            fs::read(rt, name).map_err(|_| anyhow!("this file cannot be read: {name}"))
+        })
 }
 
 fn play_text(rt: &HostRuntime, text: &str) -> anyhow::Result<()> {
     let heap = rt.alloc();
-    let script = read_script(rt, text)?;
-    let calls = calls_of(heap, &script.requests, &script.images)?;
+    let script: Vec<Request<Vec<u8>>> = text
+        .lines()
+        .map(|line| read_line(rt, line))
+        .try_collect(heap)?;
+    let calls: Vec<Call<'_>> = script.iter().map(Call::from).collect(heap)?;
     let (replies, _board) = play(
         heap,
         board_config(),
@@ -74,7 +38,7 @@ fn play_text(rt: &HostRuntime, text: &str) -> anyhow::Result<()> {
         &calls,
     )?;
     for reply in &replies {
-        print_reply(rt, *reply)?;
+        println!(rt; "{}", Told(*reply))?;
     }
     Ok(())
 }

@@ -1,41 +1,23 @@
 // The lines of a script.
+ghost use Rattle.std.specs.Prelude.{IfSome, IsUtf8};
+ghost use Rattle.session.specs.Image.{ForImage};
 
-// A call, as a line asks for it; an image goes by its number among the images of the script.
-#[derive(Clone, Copy)]
-pub(crate) enum Request {
-    Load(usize),
-    Lines(u32),
-    Look(u32),
-    Show(u32),
-    Step,
-    Run(u32),
-}
+use crate::request::Request;
 
-fn hexadecimal(text: &str) -> Option<u32> {
-    u32::from_str_radix(text, 16).ok()
-}
-
-fn decimal(text: &str) -> Option<u32> {
-    text.parse::<u32>().ok()
-}
-
-// The call of a line, where `images` images are known so far; none if the line is no call.
-pub(crate) fn read_request(line: &str, images: usize) -> Option<Request> {
+// The call of a line, its image by the name of a file; none if the line is no call.
+pub(crate) fn read_request(line: &str) -> Option<Request<&str>>
+    ensures text { IfSome result (λ request. ForImage request (λ name. IsUtf8 name.now)) }
+{
     if line == "step" {
         return Some(Request::Step);
     }
-    if line.starts_with("load ") {
-        return Some(Request::Load(images));
+    let (verb, argument) = line.split_once(' ')?;
+    match verb {
+        "load" => Some(Request::Load(argument)),
+        "lines" => Some(Request::Lines(u32::from_str_radix(argument, 16).ok()?)),
+        "look" => Some(Request::Look(u32::from_str_radix(argument, 16).ok()?)),
+        "show" => Some(Request::Show(argument.parse().ok()?)),
+        "run" => Some(Request::Run(argument.parse().ok()?)),
+        _ => None,
     }
-    if let Some(word) = line.strip_prefix("lines ") {
-        return Some(Request::Lines(hexadecimal(word)?));
-    }
-    if let Some(address) = line.strip_prefix("look ") {
-        return Some(Request::Look(hexadecimal(address)?));
-    }
-    if let Some(index) = line.strip_prefix("show ") {
-        return Some(Request::Show(decimal(index)?));
-    }
-    let budget = line.strip_prefix("run ")?;
-    Some(Request::Run(decimal(budget)?))
 }

@@ -1,38 +1,41 @@
 // A line for each reply: the call, and what it answered, or why it was turned down.
-use bus::Fault;
 use cpu::Answer;
 use script::Reply;
-use std::io;
+use std::fmt;
 
-fn print_fault(rt: &HostRuntime, fault: Fault) -> io::Result<()> {
-    let cause = fault.cause.number();
-    let address = fault.home.address;
-    let layer = fault.home.layer.number();
-    println!(rt; "look,refused,{cause},{address:08X},{layer}")
-}
+// A reply, and its text.
+#[derive(Clone, Copy)]
+pub(crate) struct Told(pub(crate) Reply);
 
-fn print_step(rt: &HostRuntime, answer: Answer) -> io::Result<()> {
-    match answer {
-        Answer::Done(word) => println!(rt; "step,D,{word:08X}"),
-        Answer::Taken(exception) => println!(rt; "step,X,{:08X}", exception.number()),
-        Answer::Stopped { stop, .. } => println!(rt; "step,S,{:08X}", stop.number()),
-    }
-}
-
-pub(crate) fn print_reply(rt: &HostRuntime, reply: Reply) -> io::Result<()> {
-    match reply {
-        Reply::Load(Ok(count)) => println!(rt; "load,{count}"),
-        Reply::Load(Err(refusal)) => {
-            let place = refusal.place;
-            println!(rt; "load,refused,{},{place}", refusal.cause.number())
+impl fmt::Display for Told {
+    fn fmt<W: fmt::Write>(&self, f: &mut fmt::Formatter<W>) -> fmt::Result {
+        match self.0 {
+            Reply::Load(Ok(count)) => write!(f, "load,{count}"),
+            Reply::Load(Err(refusal)) => {
+                write!(
+                    f,
+                    "load,refused,{},{}",
+                    refusal.cause.number(),
+                    refusal.place
+                )
+            }
+            Reply::Lines(Ok(())) => write!(f, "lines"),
+            Reply::Lines(Err(refused)) => write!(f, "lines,refused,{}", refused.number()),
+            Reply::Look(Ok(byte)) => write!(f, "look,{byte:02X}"),
+            Reply::Look(Err(fault)) => {
+                let cause = fault.cause.number();
+                let address = fault.home.address;
+                let layer = fault.home.layer.number();
+                write!(f, "look,refused,{cause},{address:08X},{layer}")
+            }
+            Reply::Show(Ok(value)) => write!(f, "show,{value:08X}"),
+            Reply::Show(Err(refused)) => write!(f, "show,refused,{}", refused.number()),
+            Reply::Step(Answer::Done(word)) => write!(f, "step,D,{word:08X}"),
+            Reply::Step(Answer::Taken(exception)) => {
+                write!(f, "step,X,{:08X}", exception.number())
+            }
+            Reply::Step(Answer::Stopped { stop, .. }) => write!(f, "step,S,{:08X}", stop.number()),
+            Reply::Run(done, taken, ending) => write!(f, "run,{done},{taken},{ending}"),
         }
-        Reply::Lines(Ok(())) => println!(rt; "lines"),
-        Reply::Lines(Err(refused)) => println!(rt; "lines,refused,{}", refused.number()),
-        Reply::Look(Ok(byte)) => println!(rt; "look,{byte:02X}"),
-        Reply::Look(Err(fault)) => print_fault(rt, fault),
-        Reply::Show(Ok(value)) => println!(rt; "show,{value:08X}"),
-        Reply::Show(Err(refused)) => println!(rt; "show,refused,{}", refused.number()),
-        Reply::Step(answer) => print_step(rt, answer),
-        Reply::Run(done, taken, ending) => println!(rt; "run,{done},{taken},{ending}"),
     }
 }

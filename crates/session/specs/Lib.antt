@@ -1,0 +1,2 @@
+-- The definition that the contracts of the reading cite.
+pub mod Image
