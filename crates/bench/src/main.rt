@@ -1,4 +1,4 @@
-// Runs a workload on the programs' board for a number of steps, the last of its arguments, and prints what was done.
+// Runs a workload on the programs' board for a number of steps, the last number among its arguments, and prints what was done.
 #![tactic(auto)]
 
 use board::Board;
@@ -12,10 +12,10 @@ const ROUNDS: u32 = 19;
 const INTERRUPTS: u32 = 22;
 
 fn main(rt: HostRuntime) -> io::Result<()> {
-    let mut budget = 0;
-    for word in env::args(&rt)? {
-        budget = word.as_str().parse::<u32>().unwrap_or(budget);
-    }
+    let budget = env::args(&rt)?
+        .filter_map(|word| word.parse().ok())
+        .last()
+        .unwrap_or(0);
     let image = fs::read(&rt, "workload.image")?;
     let mut board = Board::power(board_config(), [0xA5A5_A5A5; 32], board_bus(rt.alloc())?);
     if let Err(refusal) = board.load(image.as_slice()) {
