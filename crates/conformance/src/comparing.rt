@@ -1,5 +1,5 @@
 // Compares what the board told with what the simulator ended a case with.
-ghost use Rattle.std.specs.Prelude.{T, IfOk, OnOk};
+ghost use Rattle.std.specs.Prelude.{T, IfOk, IsOk, ◌↔◌};
 ghost use Rattle.conformance.specs.Agreement.{Agrees};
 
 use crate::case::Case;
@@ -7,9 +7,12 @@ use crate::difference::Difference;
 use crate::machine::Outcome;
 use std::alloc::{AllocError, Global};
 
+// Nothing, or the values that are not as the case says.
+pub(crate) type Verdict = Result<(), Vec<Difference>>;
+
 // Whether everything is as the case says.
 fn agree(case: &Case<'_>, outcome: &Outcome) -> bool
-    ensures { T result → Agrees case.now outcome.now }
+    ensures { T result ↔ Agrees case.now outcome.now }
 {
     let made = outcome.course.made();
     let shown = case.shown_after(made);
@@ -74,13 +77,13 @@ fn differences(
     Ok(list)
 }
 
-// How a run compares with its case. `Ok` is told only where every register, every byte, the ending and the steps are as the case says.
+// How a run compares with its case. `Ok` is told where every register, every byte, the ending and the steps are as the case says, and nowhere else.
 pub(crate) fn compare(
     heap: Global,
     case: &Case<'_>,
     outcome: &Outcome,
-) -> Result<Result<(), Vec<Difference>>, AllocError>
-    ensures { IfOk result (λ verdict. OnOk verdict (Agrees case.now outcome.now)) }
+) -> Result<Verdict, AllocError>
+    ensures { IfOk result (λ verdict. IsOk verdict ↔ Agrees case.now outcome.now) }
 {
     if agree(case, outcome) {
         Ok(Ok(()))

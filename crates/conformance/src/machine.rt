@@ -54,7 +54,7 @@ fn write_line(image: &mut String, address: usize, bytes: &[u8]) -> Result<(), Al
     for byte in bytes {
         write!(image, "{byte:02X}")?;
     }
-    image.push('\n')
+    writeln!(image)
 }
 
 // The image that makes memory like this. It has no lines of zeros: memory is zero first.
@@ -69,7 +69,7 @@ fn image_of(heap: Global, memory: &[u8; MEMORY]) -> Result<String, AllocError> {
         write_line(&mut image, *address, bytes)?;
     }
     let count = lines.len();
-    write!(image, "E,{count:08X}\n")?;
+    writeln!(image, "E,{count:08X}")?;
     Ok(image)
 }
 

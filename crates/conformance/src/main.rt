@@ -9,7 +9,7 @@ mod reading;
 mod tally;
 
 use anyhow::ensure;
-use comparing::compare;
+use comparing::{Verdict, compare};
 use difference::Difference;
 use machine::run_case;
 use reading::read_case;
@@ -21,7 +21,7 @@ use tally::Tally;
 const FEW: usize = 6;
 
 // The name of a line's case, and how it compares.
-fn check_line(heap: Global, line: &str) -> anyhow::Result<(&str, Result<(), Vec<Difference>>)> {
+fn check_line(heap: Global, line: &str) -> anyhow::Result<(&str, Verdict)> {
     let case = read_case(heap, line)?;
     let outcome = run_case(heap, &case)?;
     let verdict = compare(heap, &case, &outcome)?;

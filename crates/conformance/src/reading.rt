@@ -46,6 +46,7 @@ fn lay(memory: &mut [u8], address: usize, digits: &str) -> anyhow::Result<usize>
     ensures some { IfOk result (λ behind. address < behind) }
 {
     let end = memory.len();
+    // What of memory lies behind the bytes that are laid: nothing, where the address itself is outside.
     let mut room = memory.get_mut(address..).unwrap_or_default().iter_mut();
     for pair in digits.as_bytes().chunks(2) {
         let byte = read_byte(pair)?;

@@ -12,12 +12,9 @@ impl fmt::Display for Told {
         match self.0 {
             Reply::Load(Ok(count)) => write!(f, "load,{count}"),
             Reply::Load(Err(refusal)) => {
-                write!(
-                    f,
-                    "load,refused,{},{}",
-                    refusal.cause.number(),
-                    refusal.place
-                )
+                let cause = refusal.cause.number();
+                let place = refusal.place;
+                write!(f, "load,refused,{cause},{place}")
             }
             Reply::Lines(Ok(())) => write!(f, "lines"),
             Reply::Lines(Err(refused)) => write!(f, "lines,refused,{}", refused.number()),

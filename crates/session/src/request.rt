@@ -6,7 +6,7 @@ ghost use Rattle.session.specs.Image.{ForImage, Maps};
 use script::Call;
 
 // It loads an image of type `I`: a file's name, or the file's bytes.
-#[derive(Clone, Copy)]
+#[derive(Drop)]
 pub(crate) enum Request<I> {
     Load(I),
     Lines(u32),
