@@ -1,7 +1,6 @@
 -- Bytes and lines put on memory, one by one.
-use Rattle.std.proofs.Common.{◌≡◌, ℕ, ◌+◌, ◌%◌, ◌^◌, ◌<◌, true, ◌&&◌, ltb, List, [], ◌∷◌, length, get_or, drop, Some, Ok, Err, Result, sym, refl, ap, ◌∙◌, subst, arith}
-use Rattle.std.proofs.lemmas.List.{at_drop_more}
-use Rattle.std.proofs.lemmas.Bool.{and_parts, ltb-true, eq-eqb}
+use Rattle.std.proofs.Common.{◌≡◌, ℕ, ◌+◌, ◌%◌, ◌^◌, ◌<◌, true, ◌&&◌, ltb, List, [], ◌∷◌, length, drop, Some, Ok, Err, Result, sym, refl, ap, ◌∙◌, subst, arith}
+use Rattle.std.proofs.lemmas.Bool.{and_parts, eq-eqb}
 use Rattle.std.specs.List.{AllByRecursion}
 use Rattle.bus.specs.Rules.{Rules, Laws, writable, or_else, stored_all, writing, written}
 use Rattle.bus.specs.declared.fault.Fault.{Fault}
@@ -16,7 +15,7 @@ use Rattle.image.specs.Memory.{is_memory, memory_in}
 use Rattle.image.specs.Reading.{data_line, read_line}
 use Rattle.board.specs.Load.{put_data}
 
-pub not_both : {V : Type 0} {x : Result V Fault} {v : V} {f : Fault} → x ≡ Ok v → x ≡ Err f → ⊥
+not_both : {V : Type 0} {x : Result V Fault} {v : V} {f : Fault} → x ≡ Ok v → x ≡ Err f → ⊥
 not_both ok err = let z : ◌≡◌ {A = ℕ} 0 1 = cc in omega arith
 
 -- nothing keeps a write from memory
@@ -40,32 +39,24 @@ module _ {M : Type 0} (r : Rules M) where
     all_memory m a [] = refl
     all_memory m a (b ∷ bs) = all_memory (r.stored m a b) (a + 1) bs ∙ stored_memory m a b
 
-  -- the byte at a place of some bytes that fall on memory from there on
-  module _ (m : M) (at : ℕ) (bs : List ℕ) (i : ℕ) (more : i < length bs) (on : on_memory (memory_in r m) at (drop i bs) ≡ true) where
-    parts : ((ltb at (2 ^ 32) && memory_in r m at) ≡ true) × (on_memory (memory_in r m) (at + 1) (drop (i + 1) bs) ≡ true)
-    parts = and_parts _ _ (sym (at_drop_more (on_memory (memory_in r m) at) bs i 0 more) ∙ on)
+  -- the first of some bytes that fall on memory is put there, and the others fall on memory still
+  module _ (laws : Laws r) (m n : M) (at b : ℕ) (bs more : List ℕ) (cut : bs ≡ b ∷ more) (on : on_memory (memory_in r m) at bs ≡ true) (small : b < 256) (put : n ≡ written r m Byte at b) where
+    parts : ((ltb at (2 ^ 32) && memory_in r m at) ≡ true) × (on_memory (memory_in r m) (at + 1) more ≡ true)
+    parts = and_parts _ _ (sym (ap (on_memory (memory_in r m) at) cut) ∙ on)
 
-    pub byte_fits : at < 2 ^ 32
-    byte_fits = ltb-true at (2 ^ 32) (and_parts (ltb at (2 ^ 32)) (memory_in r m at) parts.0).0
+    stored : n ≡ r.stored m at b
+    stored =
+        let whole : at % 1 ≡ 0 = omega arith in
+        let low : b % 256 ≡ b = omega arith in
+        let free : writing r m Byte at (r.stored m at (b % 256)) ≡ Ok (r.stored m at (b % 256)) =
+        rw (eq-eqb (at % 1) 0 whole) (on_memory_lem (r.kind m at) (r.home m at) _ (and_parts (ltb at (2 ^ 32)) (memory_in r m at) parts.0).1) in
+        put ∙ ap (or_else m) free ∙ ap (r.stored m at) low
 
-    pub byte_accepted : {V : Type 0} (v : V) → writing r m Byte at v ≡ Ok v
-    byte_accepted v =
-        let e : at % 1 ≡ 0 = omega arith in
-        rw (eq-eqb (at % 1) 0 e) (on_memory_lem (r.kind m at) (r.home m at) v (and_parts (ltb at (2 ^ 32)) (memory_in r m at) parts.0).1)
+    pub bytes_more : stored_all r n (at + 1) more ≡ stored_all r m at bs
+    bytes_more = ap (λ k. stored_all r k (at + 1) more) stored ∙ sym (ap (stored_all r m at) cut)
 
-    byte_put : get_or bs i 0 < 256 → written r m Byte at (get_or bs i 0) ≡ r.stored m at (get_or bs i 0)
-    byte_put small =
-        let low : get_or bs i 0 % 256 ≡ get_or bs i 0 = omega arith in
-        ap (or_else m) (byte_accepted (r.stored m at (get_or bs i 0 % 256))) ∙ ap (r.stored m at) low
-
-    pub bytes_more : (n : M) → n ≡ written r m Byte at (get_or bs i 0) → get_or bs i 0 < 256 → stored_all r n (at + 1) (drop (i + 1) bs) ≡ stored_all r m at (drop i bs)
-    bytes_more n is small =
-        ap (λ k. stored_all r k (at + 1) (drop (i + 1) bs)) (is ∙ byte_put small) ∙ sym (at_drop_more (stored_all r m at) bs i 0 more)
-
-    pub bytes_placed : Laws r → (n : M) → n ≡ written r m Byte at (get_or bs i 0) → get_or bs i 0 < 256 → on_memory (memory_in r n) (at + 1) (drop (i + 1) bs) ≡ true
-    bytes_placed laws n is small =
-        ap (λ k. on_memory (memory_in r k) (at + 1) (drop (i + 1) bs)) (is ∙ byte_put small)
-        ∙ ap (λ f. on_memory f (at + 1) (drop (i + 1) bs)) (stored_memory laws m at (get_or bs i 0)) ∙ parts.1
+    pub bytes_placed : on_memory (memory_in r n) (at + 1) more ≡ true
+    bytes_placed = ap (λ k. on_memory (memory_in r k) (at + 1) more) stored ∙ ap (λ f. on_memory f (at + 1) more) (stored_memory laws m at b) ∙ parts.1
 
   -- a data line at a place of an image
   module _ (image : List ℕ) (place : ℕ) (l : List ℕ) (at : LineAt image place (Some l)) (d : Data) (is : data_line d ≡ read_line l) where

@@ -1,47 +1,39 @@
 // Loading an image into memory.
-ghost use Rattle.std.specs.Prelude.{◌≡◌, true, Ok};
+ghost use Rattle.std.specs.Prelude.{◌≡◌, true};
 ghost use Rattle.std.specs.List.{AllByRecursion};
 ghost use Rattle.bus.specs.Rules.{stored_all};
 ghost use Rattle.image.specs.Acceptance.{Accepts};
 ghost use Rattle.image.specs.Checking.{on_memory, image_data};
-ghost use Rattle.image.specs.Meaning.{answer_in};
+ghost use Rattle.image.specs.Meaning.{answer_in, bytes_in};
 ghost use Rattle.image.specs.Memory.{memory_in};
 ghost use Rattle.board.specs.Load.{put_data, load_answer, loaded_into};
 ghost use Rattle.board.specs.Machine.{seen};
 
 use crate::machine::Board;
-use bus::{Bus, Fault, Size};
-use image::{Line, Refusal, check, line_at, read_line};
+use bus::{Bus, Size};
+use image::{Bytes, Line, Lines, Refusal, check, read_line};
 
 // Puts bytes into memory from `address` on.
-fn put_bytes<B: Bus>(bus: &mut B, address: u32, bytes: &[u8]) -> Result<(), Fault>
-    requires placed { on_memory (memory_in B.Bus.rules (B.Bus.means bus.old)) address bytes.now ≡ true }
-    ensures meaning { B.Bus.means bus.new ≡ stored_all B.Bus.rules (B.Bus.means bus.old) address bytes.now }
-    ensures answer { result ≡ Ok tt }
+fn put_bytes<B: Bus>(bus: &mut B, address: u32, bytes: Bytes<'_>)
+    requires { on_memory (memory_in B.Bus.rules (B.Bus.means bus.old)) address (bytes_in bytes) ≡ true }
+    ensures { B.Bus.means bus.new ≡ stored_all B.Bus.rules (B.Bus.means bus.old) address (bytes_in bytes.entry) }
 {
-    let mut at = u64::from(address);
-    for byte in bytes {
-        bus.write(Size::Byte, at as u32, u32::from(*byte))?;
-        at += 1;
+    for (at, byte) in (u64::from(address)..).zip(bytes) {
+        bus.write(Size::Byte, at as u32, u32::from(byte)).unwrap();
     }
-    Ok(())
 }
 
 // Puts the bytes of each data line into memory, line by line up to the end line.
-fn put_lines<B: Bus>(bus: &mut B, image: &[u8]) -> Result<(), Fault>
-    requires placed { AllByRecursion (λ d. on_memory (memory_in B.Bus.rules (B.Bus.means bus.old)) d.address d.bytes ≡ true) (image_data image.now) }
-    ensures meaning { B.Bus.means bus.new ≡ put_data B.Bus.rules (B.Bus.means bus.old) (image_data image.now) }
-    ensures answer { result ≡ Ok tt }
+fn put_lines<B: Bus>(bus: &mut B, image: &[u8])
+    requires { AllByRecursion (λ d. on_memory (memory_in B.Bus.rules (B.Bus.means bus.old)) d.address d.bytes ≡ true) (image_data image.now) }
+    ensures { B.Bus.means bus.new ≡ put_data B.Bus.rules (B.Bus.means bus.old) (image_data image.now) }
 {
-    let mut place = 0;
-    while let Some(line) = line_at(image, place) {
-        let Line::Data(found) = read_line(line) else {
-            return Ok(());
+    for (_, line) in Lines::new(image) {
+        let Some(Line::Data(found)) = read_line(line) else {
+            return;
         };
-        put_bytes(bus, found.address, found.bytes.as_slice())?;
-        place += line.len() + 1;
+        put_bytes(bus, found.address, found.bytes);
     }
-    Ok(())
 }
 
 impl<B: Bus> Board<B> {
@@ -52,9 +44,7 @@ impl<B: Bus> Board<B> {
         ensures acceptance { Accepts (memory_in B.Bus.rules (B.Bus.means self.old.bus)) image.now (answer_in result) }
     {
         let count = check(&self.bus, image)?;
-        match put_lines(&mut self.bus, image) {
-            Ok(()) => Ok(count),
-            Err(_) => unreachable(),
-        }
+        put_lines(&mut self.bus, image);
+        Ok(count)
     }
 }

@@ -3,7 +3,6 @@ pub mod Bytes
 pub mod Cache
 pub mod Fork
 pub mod ForkLaws
-pub mod Memories
 pub mod Number
 pub mod Port
 pub mod Rules

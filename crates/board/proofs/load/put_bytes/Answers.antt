@@ -1,39 +1,28 @@
--- A byte on memory is accepted and put; with the last one all are.
-use Rattle.std.proofs.Common.{◌≡◌, ◌<◌, get_or, sym, refl, ap, ◌∙◌, arith}
-use Rattle.std.proofs.lemmas.List.{at_drop_all}
+-- A byte on memory is put, and the bytes after it are left.
+use Rattle.std.proofs.Common.{◌≡◌, ℕ, ◌+◌, ◌<◌, ◌≤◌, ◌^◌, true, ◌∷◌, sym, ◌∙◌, subst, rules}
 use Rattle.bus.specs.Rules.{stored_all, written}
 use Rattle.bus.specs.declared.size.Size.TheVariants.{Byte}
-use Rattle.board.proofs.Loading.{not_both, byte_fits, byte_accepted, bytes_more, bytes_placed}
+use Rattle.image.specs.Checking.{on_memory}
+use Rattle.image.specs.Meaning.{bytes_in}
+use Rattle.image.specs.Memory.{memory_in}
+use Rattle.board.proofs.Loading.{bytes_more, bytes_placed}
 use Rattle.board.proofs.load.put_bytes.Goals as goal
 
-pub overflow_cast-at : goal.overflow_cast-at
-overflow_cast-at g c =
-    let on = c.loop-byte.invariant.1 in
-    let fits = byte_fits g.B.Bus.rules (g.B.Bus.means c.loop-byte.bus) c.loop-byte.at c.args.bytes.now c.loop-byte.byte-index c.loop-byte-test.true on in
-    omega arith
-
-pub returns-in_err-write : goal.returns-in_err-write
-returns-in_err-write g c =
-    absurd (not_both (byte_accepted g.B.Bus.rules (g.B.Bus.means c.loop-byte.bus) c.loop-byte.at c.args.bytes.now c.loop-byte.byte-index c.loop-byte-test.true c.loop-byte.invariant.1 tt)
-    (sym c.write.ensures.answer ∙ c.in_err-write.was))
-
-pub loop-byte-preserved : goal.loop-byte-preserved
-loop-byte-preserved g c =
+pub loop-at-preserved : goal.loop-at-preserved
+loop-at-preserved g c =
     let r = g.B.Bus.rules in
-    let m = g.B.Bus.means c.loop-byte.bus in
-    let at = c.loop-byte.at in
-    let bs = c.args.bytes.now in
-    let i = c.loop-byte.byte-index in
+    let m = g.B.Bus.means c.loop-at.bus in
     let n = g.B.Bus.means c.write.new.self in
-    let more = c.loop-byte-test.true in
-    let on = c.loop-byte.invariant.1 in
-    let small : get_or bs i 0 < 256 = omega (arith, c.type_inv.bytes i) in
-    let is : n ≡ written r m Byte at (get_or bs i 0) = c.write.ensures.meaning ∙ ap (written r m Byte at) c.from.ensures in
-    let fits = byte_fits r m at bs i more on in
-    (bytes_more r m at bs i more on n is small ∙ c.loop-byte.invariant.0, bytes_placed r m at bs i more on g.met.B.Bus.lawful n is small, omega arith)
-
-pub returns : goal.returns
-returns g c = record {
-  meaning = sym (at_drop_all (stored_all g.B.Bus.rules (g.B.Bus.means c.loop-byte.bus) c.loop-byte.at) c.args.bytes.now c.loop-byte.byte-index c.loop-byte-test.false) ∙ c.loop-byte.invariant.0;
-  answer = refl;
-}
+    let at : ℕ = c.loop-at.at-iterator.a.start in
+    let b : ℕ = c.in-Some.byte in
+    let more = bytes_in c.next.new.self.b in
+    let cut : bytes_in c.loop-at.at-iterator.b ≡ b ∷ more = search rules in
+    let on : on_memory (memory_in r m) at (bytes_in c.loop-at.at-iterator.b) ≡ true = c.loop-at.invariant.1 in
+    let small : b < 256 = search rules in
+    let put : n ≡ written r m Byte at b = search rules in
+    let to : c.next.new.self.a.start ≡ at + 1 = search rules in
+    let end : c.next.new.self.a.start ≤ 2 ^ 32 = search rules in (
+      subst (λ (k : ℕ). stored_all r n k more ≡ stored_all r m at (bytes_in c.loop-at.at-iterator.b)) (sym to) (bytes_more r g.met.B.Bus.lawful m n at b _ more cut on small put) ∙ c.loop-at.invariant.0,
+      subst (λ (k : ℕ). on_memory (memory_in r n) k more ≡ true) (sym to) (bytes_placed r g.met.B.Bus.lawful m n at b _ more cut on small put),
+      end,
+    )

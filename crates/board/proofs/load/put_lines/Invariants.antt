@@ -1,5 +1,5 @@
 -- The lines so far are put, and the bytes of those left fall on memory.
-use Rattle.std.proofs.Common.{◌≡◌, ◌-◌, ◌≤◌, length, drop}
+use Rattle.std.proofs.Common.{◌≡◌, drop}
 use Rattle.image.specs.Checking.{data_of, image_data}
 use Rattle.image.specs.Lines.{lines_of}
 use Rattle.board.specs.Load.{put_data}
@@ -8,9 +8,6 @@ use Rattle.board.proofs.load.put_lines.Given as goal
 
 abbrev pub invariant-loop-line : goal.invariant-loop-line
 invariant-loop-line g l =
-    (put_data g.B.Bus.rules (g.B.Bus.means l.bus) (data_of (lines_of (drop l.place l.image))) ≡ put_data g.B.Bus.rules (g.B.Bus.means l.initial.bus) (image_data l.image))
-    × Placed g.B.Bus.rules (g.B.Bus.means l.bus) (data_of (lines_of (drop l.place l.image)))
-    × (l.place ≤ length l.image)
-
-abbrev pub decreases-loop-line : goal.decreases-loop-line
-decreases-loop-line g l = length l.image - l.place
+    (put_data g.B.Bus.rules (g.B.Bus.means l.bus) (data_of (lines_of (drop l.line-iterator.place l.image))) ≡ put_data g.B.Bus.rules (g.B.Bus.means l.initial.bus) (image_data l.image))
+    × Placed g.B.Bus.rules (g.B.Bus.means l.bus) (data_of (lines_of (drop l.line-iterator.place l.image)))
+    × (l.line-iterator.image.now ≡ l.image)
