@@ -1,5 +1,5 @@
 -- Reading hexadecimal digits undoes writing them, and the other way round.
-use Rattle.std.proofs.Common.{◌≡◌, ℕ, zero, suc, ◌+◌, ◌-◌, ◌*◌, ◌/◌, ◌%◌, ◌^◌, ◌<◌, Bool, true, false, cond, ◌&&◌, eqb, List, [], ◌∷◌, ◌++◌, length, get_or, take, Some, None, Option, sym, refl, ap, ◌∙◌, pow-suc, arith}
+use Rattle.std.proofs.Common.{◌≡◌, ℕ, zero, suc, ◌+◌, ◌*◌, ◌/◌, ◌%◌, ◌^◌, ◌<◌, Bool, true, false, cond, ◌&&◌, eqb, List, [], ◌∷◌, ◌++◌, length, get_or, take, Some, None, Option, sym, refl, ap, ◌∙◌, pow-suc, arith}
 use Rattle.std.specs.Str.Parse.{digits_value as value}
 use Rattle.std.specs.Char.{digit_value}
 use Rattle.std.proofs.lemmas.Nat.{div_below, div-mul-add, mod-mul-add, mod_below}
@@ -8,12 +8,6 @@ use Rattle.std.proofs.lemmas.List.{length_push, take_more, take_all, length-take
 use Rattle.std.proofs.lemmas.Bool.{and_parts, and_from, eqb-true, eq-eqb}
 use Rattle.std.proofs.lemmas.Bool.Decides.{nat_tests}
 use Rattle.hex_text.specs.Digits.{hex_digit, hex_digits, is_hex_digit, all_hex_digits, hex_number, hex_number_in, Undoes}
-
-pub hex_digits-step : (k n : ℕ) → 0 < k → hex_digits k n ≡ hex_digits (k - 1) (n / 16) ++ hex_digit (n % 16) ∷ []
-hex_digits-step zero n h = absurd (omega arith)
-hex_digits-step (suc k) n h =
-    let e : k ≡ suc k - 1 = omega arith in
-    ap (λ j. hex_digits j (n / 16) ++ hex_digit (n % 16) ∷ []) e
 
 digit_back : (d : ℕ) → d < 16 → digit_value (hex_digit d) ≡ d
 digit_back d h = grind (arith, nat_tests)

@@ -1,3 +1,4 @@
 -- The lemmas on hexadecimal text.
 pub mod Inverse
+pub mod Padded
 pub mod Reading
