@@ -6,7 +6,7 @@ ghost use Rattle.tracer.specs.declared.refusal.Refusal.TheVariants.{Image};
 // How many bytes an image may have.
 pub(crate) const LONGEST: usize = 65536;
 
-/// The image is longer than that, and was not looked at; or the board turned it down.
+/// The image has more bytes than `LONGEST` and was not looked at; or the board turned it down.
 #[derive(Clone, Copy)]
 pub(crate) enum Refusal {
     TooLong,
