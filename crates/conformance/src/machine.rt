@@ -42,10 +42,7 @@ pub(crate) struct Outcome {
 fn config() -> Config
     ensures value { result ≡ configuration 0x00101137 0x00000400 0x00000800 }
 {
-    match vet(0x0010_1137, ORIGIN, DEBUG_BASE) {
-        Ok(config) => config,
-        Err(_) => unreachable(),
-    }
+    vet(0x0010_1137, ORIGIN, DEBUG_BASE).unwrap()
 }
 
 // Writes the line of an image that puts bytes to an address.
@@ -74,7 +71,7 @@ fn image_of(heap: Global, memory: &[u8; MEMORY]) -> Result<String, AllocError> {
 }
 
 // Load, run, show everything, and look at every byte.
-fn calls_of(heap: Global, image: &[u8], steps: u32) -> Result<Vec<Call<'_>>, AllocError> {
+fn calls_of(heap: Global, image: &[u8], steps: u32) -> Result<Vec<Call<&[u8]>>, AllocError> {
     let mut calls = vec![in heap; Call::Load(image), Call::Run(steps)]?;
     // By hand: the check covers no `map` by a function whose result has a lifetime that no argument names.
     for index in 0..SHOWN as u32 {
@@ -90,7 +87,11 @@ fn calls_of(heap: Global, image: &[u8], steps: u32) -> Result<Vec<Call<'_>>, All
 fn outcome_of(heap: Global, replies: &[Reply]) -> anyhow::Result<Outcome> {
     let [
         Reply::Load(Ok(_)),
-        Reply::Run(done, taken, ending),
+        Reply::Run {
+            done,
+            taken,
+            ending,
+        },
         told @ ..,
     ] = replies
     else {

@@ -16,7 +16,7 @@ pub struct StepLine {
 }
 
 impl StepLine {
-    // By hand, and not by `Display`: the library says of no `{:08X}` what it prints, and `hexadecimal` allocates.
+    // A method, and no `Display`: `decimal`, the project's own routine, makes its text on the heap.
     pub fn text(&self, heap: Global) -> Result<String, AllocError>
         ensures value { IfOk result (λ t. string_bytes t ≡ step_text self.now) }
     {

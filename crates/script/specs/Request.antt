@@ -1,5 +1,6 @@
 -- The calls of a script as values, and what each is told.
 use Rattle.std.specs.Prelude.{ℕ, List, Result}
+use denote.Ref.{Bor}
 use Rattle.image.specs.Checking as image
 use Rattle.image.specs.Meaning.{answer_in}
 use Rattle.bus.specs.declared.fault.Fault.{Fault}
@@ -27,7 +28,7 @@ pub data Told : Type 0 where
   stepped : Answer → Told
   ran : ℕ → ℕ → ℕ → Told
 
-abbrev pub request : Call → Request
+abbrev pub request : Call (Bor (List ℕ)) → Request
 request (calls.Load bytes) = load bytes.now
 request (calls.Lines w) = lines w
 request (calls.Look a) = look a

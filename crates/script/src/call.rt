@@ -4,9 +4,10 @@ use bus::Fault;
 use cpu::Answer;
 use image::Refusal;
 
-#[derive(Clone, Copy)]
-pub enum Call<'a> {
-    Load(&'a [u8]),
+// `I` is what a load has of its image: the bytes, or what they are read from.
+#[derive(Clone, Copy, Drop)]
+pub enum Call<I> {
+    Load(I),
     Lines(u32),
     Look(u32),
     Show(u32),

@@ -9,7 +9,7 @@ use board::Board;
 use bus::Bus;
 
 // Makes a call of a board.
-pub fn perform<B: Bus>(board: &mut Board<B>, call: Call<'_>) -> Reply
+pub fn perform<B: Bus>(board: &mut Board<B>, call: Call<&[u8]>) -> Reply
     ensures state { seen B.Bus.means board.new ≡ after B.Bus.rules (seen B.Bus.means board.old) (request call.entry) }
     ensures answer { told result ≡ tells B.Bus.rules (seen B.Bus.means board.old) (request call.entry) }
 {

@@ -18,7 +18,7 @@ pub fn play<B: Bus>(
     config: Config,
     registers: [u32; 32],
     bus: B,
-    script: &[Call<'_>],
+    script: &[Call<&[u8]>],
 ) -> Result<(Vec<Reply>, Board<B>), AllocFailed<B>>
     ensures promise { IfOk result (λ x. Promise B.Bus.rules (machine (reset config registers) (B.Bus.means bus)) (map request script.now) (map told x.0.items) (seen B.Bus.means x.1)) }
     ensures refused { IfErr result (λ y. y.value ≡ bus) }

@@ -1,35 +1,34 @@
 // Plays a script of calls on the programs' board: reads it from standard input, one call a line, and prints a line for each reply.
 #![tactic(auto)]
 
+mod loading;
 mod reading;
 mod replies;
-mod request;
 
 use anyhow::{Context, anyhow};
 use layout::{board_bus, board_config};
-use reading::read_request;
+use loading::{lend, try_map_image};
+use reading::read_call;
 use replies::Told;
-use request::Request;
 use script::{Call, play};
 use std::fs;
 use std::io::Read;
 
 // The call of a line, with the bytes of the image that it loads.
-fn read_line(rt: &HostRuntime, line: &str) -> anyhow::Result<Request<Vec<u8>>> {
-    read_request(line)
-        .context(format_args!("this line is no call: {line}"))?
-        .try_map_image(|name| {
-            fs::read(rt, name).map_err(|_| anyhow!("this file cannot be read: {name}"))
-        })
+fn read_line(rt: &HostRuntime, line: &str) -> anyhow::Result<Call<Vec<u8>>> {
+    let call = read_call(line).context(format_args!("this line is no call: {line}"))?;
+    try_map_image(call, |name| {
+        fs::read(rt, name).map_err(|_| anyhow!("this file cannot be read: {name}"))
+    })
 }
 
 fn play_text(rt: &HostRuntime, text: &str) -> anyhow::Result<()> {
     let heap = rt.alloc();
-    let script: Vec<Request<Vec<u8>>> = text
+    let script: Vec<Call<Vec<u8>>> = text
         .lines()
         .map(|line| read_line(rt, line))
         .try_collect(heap)?;
-    let calls: Vec<Call<'_>> = script.iter().map(Call::from).collect(heap)?;
+    let calls: Vec<Call<&[u8]>> = script.iter().map(lend).collect(heap)?;
     let (replies, _board) = play(
         heap,
         board_config(),

@@ -32,7 +32,11 @@ impl fmt::Display for Told {
                 write!(f, "step,X,{:08X}", exception.number())
             }
             Reply::Step(Answer::Stopped { stop, .. }) => write!(f, "step,S,{:08X}", stop.number()),
-            Reply::Run(done, taken, ending) => write!(f, "run,{done},{taken},{ending}"),
+            Reply::Run {
+                done,
+                taken,
+                ending,
+            } => write!(f, "run,{done},{taken},{ending}"),
         }
     }
 }
