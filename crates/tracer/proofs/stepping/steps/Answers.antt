@@ -10,8 +10,8 @@ pub loop-step-preserved : goal.loop-step-preserved
 loop-step-preserved g c =
     let b = g.B.Bus in
     let on : is_stopped c.step_line-line.result.outcome ≡ false = sym c.is_stopped.ensures.value ∙ c.if-is_stopped.false in
-      one_more b.rules c.args.budget c.loop-step.step (seen b.means c.loop-step.board) (seen b.means c.step_line-line.new.board) (vec_items c.loop-step.found) (omega arith)
-          c.step_line-line.ensures.line c.step_line-line.ensures.state on c.in_ok-push.ensures.items c.loop-step.invariant
+    one_more b.rules c.args.budget c.loop-step.step (seen b.means c.loop-step.board) (seen b.means c.step_line-line.new.board) (vec_items c.loop-step.found) (omega arith)
+    c.step_line-line.ensures.line c.step_line-line.ensures.state on c.in_ok-push.ensures.items c.loop-step.invariant
 
 pub returns-then-is_stopped : goal.returns-then-is_stopped
 returns-then-is_stopped g c =
