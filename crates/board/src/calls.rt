@@ -7,6 +7,7 @@ use crate::machine::Board;
 use crate::refusals::{LinesRefused, ShowRefused};
 use bus::{Bus, Fault, Size};
 
+// Two types with a number each: what one call turns down is nothing that the other may answer.
 impl LinesRefused {
     pub fn number(self) -> u8
         ensures value { result ≡ 14 }

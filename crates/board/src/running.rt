@@ -1,4 +1,4 @@
-// Runs of steps.
+// Runs of steps. What a run answers is a tuple of plain numbers by the project's rules, the last 0 or the number of the stop.
 ghost use Rattle.std.specs.Prelude.{◌≡◌};
 ghost use Rattle.cpu.specs.Exception.{stop_number};
 ghost use Rattle.board.specs.Machine.{seen};
@@ -12,7 +12,7 @@ use cpu::{Answer, Stop};
 fn stopped_run(done: u32, taken: u32, stop: Stop) -> (u32, u32, u32)
     ensures { result ≡ (done, taken, stop_number stop) }
 {
-    (done, taken, stop.number() as u32)
+    (done, taken, stop.number().into())
 }
 
 impl<B: Bus> Board<B> {

@@ -11,7 +11,7 @@ pub(crate) fn number_at(bytes: &[u8], at: usize, size: Size) -> u32
     ensures { result ≡ number (bytes_in bytes.now at (width size)) }
 {
     match size {
-        Size::Byte => bytes[at] as u32,
+        Size::Byte => u32::from(bytes[at]),
         Size::Half => u32::from_be_bytes([0, 0, bytes[at], bytes[at + 1]]),
         Size::Word => word_at(bytes, at),
     }

@@ -21,6 +21,7 @@ pub trait Bus {
     fn lines(&self) -> u32
         ensures { result ≡ rules.lines (means self.now) };
 
+    // Size and address are two parameters, as the project's rules have a bus asked.
     fn read(&mut self, size: Size, address: u32) -> Result<u32, Fault>
         ensures meaning { means self.new ≡ means self.old }
         ensures answer { result ≡ read_answer rules (means self.old) size address };

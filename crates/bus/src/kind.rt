@@ -1,4 +1,4 @@
-// What lies at an address of a bus: nothing, ROM, memory or a device.
+// What lies at an address of a bus: nothing, ROM, memory or a device. Nothing is a kind too, and no `None`: a bus tells one of the four.
 ghost use Rattle.std.specs.Prelude.{◌≡◌};
 ghost use Rattle.bus.specs.Cache.{is_steady};
 

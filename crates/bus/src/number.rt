@@ -1,4 +1,4 @@
-// The numbers that causes and layers go by.
+// The numbers that causes and layers go by. Methods, and no `From`: at a call it is the number that is asked for, by that name.
 ghost use Rattle.std.specs.Prelude.{◌≡◌};
 ghost use Rattle.bus.specs.Number.{cause_number, layer_number};
 

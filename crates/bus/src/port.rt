@@ -20,6 +20,7 @@ const REGION: Region = Region {
     layer: Layer::Port,
 };
 
+// `room` is how many bytes the list may take: a `Vec` may have more capacity than was asked for.
 #[derive(Drop)]
 pub struct Port {
     registers: [u8; 8],

@@ -9,7 +9,7 @@ pub enum Stop {
     Misaligned = 10,
 }
 
-#[derive(Clone, Copy)]
+#[derive(Clone, Copy, Debug, PartialEq, Eq)]
 pub enum Answer {
     /// The instruction of this word is done.
     Done(u32),

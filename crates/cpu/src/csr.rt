@@ -11,6 +11,6 @@ pub enum Csr {
     Deba,
     /// One of the four breakpoint registers.
     Breakpoint(u8),
-    /// Reads as 0, and keeps nothing.
+    /// Reads as 0, and keeps nothing: a register like the others, and no `None`.
     Other,
 }

@@ -1,7 +1,7 @@
 // The exceptions that a step can take, each with what it names.
 use bus::Fault;
 
-#[derive(Clone, Copy)]
+#[derive(Clone, Copy, Debug, PartialEq, Eq)]
 pub enum Exception {
     /// The breakpoint register that matched, or none for a break instruction.
     Breakpoint(Option<u8>),

@@ -1,7 +1,7 @@
 // What keeps an instruction from being done.
 use bus::Fault;
 
-#[derive(Clone, Copy)]
+#[derive(Clone, Copy, Debug, PartialEq, Eq)]
 pub enum Trouble {
     Bus(Fault),
     Divisor,

@@ -1,4 +1,4 @@
-// Registers by index.
+// Registers by index: the project's rules number them so for whoever shows one.
 ghost use Rattle.std.specs.Prelude.{◌≡◌, if◌then◌else◌, Some, None, nat_lt};
 ghost use Rattle.cpu.specs.Show.{shown};
 

@@ -26,7 +26,7 @@ fn in_field_c(register: Register) -> u16
 }
 
 impl Instruction {
-    /// The word of an instruction.
+    /// The word of an instruction. A method, as `decode` is, and no `From`: both go by the names that the instruction set gives them.
     pub fn encode(self) -> u32
         ensures back { decoded result ≡ Some self }
         ensures only { (v : ℕ) → v < 2 ^ 32 → decoded v ≡ Some self → v ≡ result }

@@ -19,6 +19,7 @@ pub enum Instruction {
         amount: ShiftAmount,
         to: Register,
     },
+    // A base and an offset are two fields, as the instruction has them.
     Load {
         op: LoadOp,
         base: Register,

@@ -15,7 +15,8 @@ pub enum Call<I> {
     Run(u32),
 }
 
-#[derive(Clone, Copy)]
+// A run's three numbers are those of the tuple that it answers.
+#[derive(Clone, Copy, Debug, PartialEq, Eq)]
 pub enum Reply {
     Load(Result<u32, Refusal>),
     Lines(Result<(), LinesRefused>),
