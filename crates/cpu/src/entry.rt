@@ -10,6 +10,7 @@ use crate::exception::Exception;
 use crate::processor::Processor;
 use crate::unit::Unit;
 
+// The numbers are methods, and no `From`: they are asked for by that name.
 impl Exception {
     pub fn number(self) -> u8
         ensures value { result ≡ exception_number self }

@@ -1,4 +1,4 @@
-// What a refusal of a configuration says.
+// What a refusal of a configuration says. Its number is a method, and no `From`: it is asked for by that name.
 ghost use Rattle.std.specs.Prelude.{◌≡◌, Some};
 ghost use Rattle.cpu.specs.Config.{refusal_number};
 ghost use Rattle.cpu.specs.Refusal.{refusal_text};

@@ -1,4 +1,4 @@
-// Why an image is turned down, and where.
+// Why an image is turned down, and where. A cause's number is a method, and no `From`: it is asked for by that name.
 ghost use Rattle.std.specs.Prelude.{◌≡◌};
 ghost use Rattle.image.specs.Meaning.{cause_number};
 

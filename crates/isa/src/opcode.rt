@@ -33,7 +33,7 @@ impl RegisterOp {
 }
 
 impl Operation {
-    /// The opcode that names an operation.
+    /// The opcode that names an operation. A method, and no `From`, by the instruction set's own name; so is the way back.
     pub fn opcode(self) -> u8
         ensures value { named result ≡ Some self }
         ensures within { result < 64 }

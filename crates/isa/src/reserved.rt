@@ -1,4 +1,4 @@
-// The refusal of a reserved word.
+// The refusal of a reserved word. Its number is a method, and no `From`: it is asked for by that name.
 ghost use Rattle.std.specs.Prelude.{◌≡◌};
 ghost use Rattle.isa.specs.Refusal.{refusal_number};
 

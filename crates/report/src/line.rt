@@ -1,4 +1,4 @@
-// The lines of a trace, each a row of fields.
+// The lines of a trace, each a row of fields: functions, and no `Display`, since `decimal` makes its text on the heap.
 ghost use Rattle.std.specs.Prelude.{◌≡◌, IfOk, string_bytes};
 ghost use Rattle.report.specs.Lines.{header, step_text, end_text, refusal_text};
 
@@ -16,7 +16,6 @@ pub struct StepLine {
 }
 
 impl StepLine {
-    // A method, and no `Display`: `decimal`, the project's own routine, makes its text on the heap.
     pub fn text(&self, heap: Global) -> Result<String, AllocError>
         ensures value { IfOk result (λ t. string_bytes t ≡ step_text self.now) }
     {
