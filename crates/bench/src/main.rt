@@ -3,7 +3,7 @@
 
 use board::Board;
 use bus::Bus;
-use layout::{board_bus, board_config};
+use layout::{FIRST_REGISTERS, board_bus, board_config};
 use std::{env, fs, io};
 
 // The registers in which the workload counts its rounds and its interrupts.
@@ -17,7 +17,7 @@ fn main(rt: HostRuntime) -> io::Result<()> {
         .last()
         .unwrap_or(0);
     let image = fs::read(&rt, "workload.image")?;
-    let mut board = Board::power(board_config(), [0xA5A5_A5A5; 32], board_bus(rt.alloc())?);
+    let mut board = Board::power(board_config(), FIRST_REGISTERS, board_bus(rt.alloc())?);
     if let Err(refusal) = board.load(image.as_slice()) {
         let place = refusal.place;
         return println!(rt; "refused at {place}");

@@ -2,15 +2,13 @@
 use Rattle.std.proofs.Common.{◌≡◌, ℕ, ◌+◌, ◌*◌, ◌%◌, ◌^◌, List, Ok, refl, ap, ◌∙◌, arith}
 use Rattle.std.proofs.lemmas.Bool.{cond_both}
 use Rattle.isa.specs.declared.instruction.Instruction.{Instruction}
-use Rattle.isa.specs.declared.operation.JumpOp.{JumpOp}
-use Rattle.isa.specs.declared.operation.JumpOp.TheVariants.{B, Call}
 use Rattle.alu.specs.Compare.{branches}
 use Rattle.bus.specs.Rules.{Rules}
 use Rattle.cpu.specs.Config.{debugs}
 use Rattle.cpu.specs.Csr.{csr_named, configured_breakpoint, status_written}
 use Rattle.cpu.specs.Entry.{base}
 use Rattle.cpu.specs.Exception.{exception_number}
-use Rattle.cpu.specs.Flow.{following, reached, linked}
+use Rattle.cpu.specs.Flow.{following, reached}
 use Rattle.cpu.specs.State.{base_of, reg, reset}
 use Rattle.cpu.specs.declared.config.Config.{Config}
 use Rattle.cpu.specs.declared.csr.Csr.{Csr}
@@ -21,7 +19,7 @@ use Rattle.board.specs.Alignment.{Aligned}
 use Rattle.board.specs.Execute.{executed}
 use Rattle.board.specs.Machine.{Machine}
 use Rattle.board.specs.Step.{noted, stepped}
-use Rattle.board.proofs.Executed.{after_done}
+use Rattle.board.proofs.Executed.{linked_status, after_done}
 use Rattle.board.proofs.StepCases.{step_cases}
 
 base_aligned : (v : ℕ) → base_of v % 256 ≡ 0
@@ -55,10 +53,6 @@ written_bases p Dc v h = cond_both (debugs p.config) _ _ Bases (λ _. record { e
 written_bases p Deba v h = cond_both (debugs p.config) _ _ Bases (λ _. record { eba = h.eba; deba = base_aligned v }) (λ _. h)
 written_bases p (Breakpoint k) v h = cond_both (configured_breakpoint p.config k) _ _ Bases (λ _. record { eba = h.eba; deba = h.deba }) (λ _. h)
 written_bases p Other v h = h
-
-linked_status : (op : JumpOp) (p : Processor) → (linked op p).status ≡ p.status
-linked_status B p = refl
-linked_status Call p = refl
 
 module _ {M : Type 0} (r : Rules M) (s : Machine M) (h : Aligned s.cpu) where
   next : (q : Processor) → q.pc ≡ following s.cpu.pc → q.status.eba ≡ s.cpu.status.eba → q.status.deba ≡ s.cpu.status.deba → Aligned q

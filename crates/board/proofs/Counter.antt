@@ -2,13 +2,10 @@
 use Rattle.std.proofs.Common.{◌≡◌, ℕ, ◌+◌, ◌%◌, ◌^◌, Ok, refl, ap}
 use Rattle.std.proofs.lemmas.Bool.{cond_both}
 use Rattle.isa.specs.declared.instruction.Instruction.{Instruction}
-use Rattle.isa.specs.declared.operation.JumpOp.{JumpOp}
-use Rattle.isa.specs.declared.operation.JumpOp.TheVariants.{B, Call}
 use Rattle.alu.specs.Compare.{branches}
 use Rattle.bus.specs.Rules.{Rules}
 use Rattle.cpu.specs.Config.{debugs}
 use Rattle.cpu.specs.Csr.{csr_named, configured_breakpoint, status_written}
-use Rattle.cpu.specs.Flow.{linked}
 use Rattle.cpu.specs.State.{reg}
 use Rattle.cpu.specs.declared.csr.Csr.{Csr}
 use Rattle.cpu.specs.declared.csr.Csr.TheVariants.{Ie, Im, Ip, Cc, Cfg, Eba, Dc, Deba, Breakpoint, Other}
@@ -19,17 +16,13 @@ use Rattle.board.specs.Counter.{counter_after, UnchangedByStop}
 use Rattle.board.specs.Execute.{executed}
 use Rattle.board.specs.Machine.{Machine}
 use Rattle.board.specs.Step.{noted, stepped}
-use Rattle.board.proofs.Executed.{after_done}
+use Rattle.board.proofs.Executed.{linked_status, after_done}
 use Rattle.board.proofs.StepCases.{step_cases}
 
 -- what is shown of a step from s that comes to an answer and a machine
 pub record Counted {M : Type 0} (s : Machine M) (a : Answer × Machine M) : Type 0 where
   pub grows : a.1.cpu.status.cc ≡ counter_after a.0 s.cpu.status.cc
   pub stays : UnchangedByStop a.0 s a.1
-
-linked_cc : (op : JumpOp) (p : Processor) → (linked op p).status.cc ≡ p.status.cc
-linked_cc B p = refl
-linked_cc Call p = refl
 
 -- no write of a control and status register reaches the counter
 written_cc : (p : Processor) (c : Csr) (v : ℕ) → (status_written p c v).cc ≡ p.status.cc
@@ -49,7 +42,7 @@ done_cc : {M : Type 0} (r : Rules M) (s : Machine M) (i : Instruction) (t : Mach
 done_cc r s =
     after_done r s (λ i p. p.status.cc ≡ s.cpu.status.cc) (λ i to v d. refl) (λ i. refl)
     (λ op left right offset. cond_both (branches op (reg s.cpu left) (reg s.cpu right)) _ _ (λ (p : Processor). p.status.cc ≡ s.cpu.status.cc) (λ _. refl) (λ _. refl))
-    (λ op target. refl) (λ op offset. linked_cc op s.cpu)
+    (λ op target. refl) (λ op offset. ap (λ x. x.cc) (linked_status op s.cpu))
     (λ csr from. written_cc s.cpu (csr_named csr.number) (reg s.cpu from))
 
 pub step_counts : {M : Type 0} (r : Rules M) (s : Machine M) → Counted s (stepped r s)

@@ -5,18 +5,24 @@ use Rattle.isa.specs.declared.instruction.Instruction.{Instruction}
 use Rattle.isa.specs.declared.offset26.Offset26.{Offset26}
 use Rattle.isa.specs.declared.operation.BranchOp.{BranchOp}
 use Rattle.isa.specs.declared.operation.JumpOp.{JumpOp}
+use Rattle.isa.specs.declared.operation.JumpOp.TheVariants.{B, Call}
 use Rattle.isa.specs.declared.operation.LoadOp.{LoadOp}
 use Rattle.isa.specs.declared.register.Register.{Register}
 use Rattle.bus.specs.Rules.{Rules}
 use Rattle.bus.specs.declared.fault.Fault.{Fault}
 use Rattle.cpu.specs.Csr.{csr_named, csr_written}
-use Rattle.cpu.specs.Flow.{advanced, resulting, branched, jumped, jumped_by}
+use Rattle.cpu.specs.Flow.{advanced, resulting, branched, linked, jumped, jumped_by}
 use Rattle.cpu.specs.State.{reg}
 use Rattle.cpu.specs.declared.processor.Processor.{Processor}
 use Rattle.cpu.specs.declared.reason.Trouble.{Trouble}
 use Rattle.board.specs.Execute.{executed, put, after_load, after_store}
 use Rattle.board.specs.Machine.{Machine}
 use Rattle.board.specs.Writers.{destination}
+
+-- a link changes no status
+pub linked_status : (op : JumpOp) (p : Processor) → (linked op p).status ≡ p.status
+linked_status B p = refl
+linked_status Call p = refl
 
 module _ {M : Type 0} (r : Rules M) (s : Machine M) (P : Instruction → Processor → Type 0)
     (results : (i : Instruction) (to : Register) (v : ℕ) → destination i ≡ Some to.number → P i (resulting s.cpu to v))

@@ -22,7 +22,7 @@ use Rattle.cpu.specs.declared.processor.Status.{Status}
 use Rattle.board.specs.Execute.{executed}
 use Rattle.board.specs.Machine.{Machine}
 use Rattle.board.specs.Step.{noted, stepped}
-use Rattle.board.proofs.Executed.{after_done}
+use Rattle.board.proofs.Executed.{linked_status, after_done}
 use Rattle.board.proofs.StepCases.{step_cases}
 use Rattle.board.specs.Writers.{link_register, destination, writes_ie, is_register, destination_is, word_writes_ie, WritesOnly}
 
@@ -51,10 +51,6 @@ linked_registers Call p n e = other p.registers 29 n _ e
 linked_size : (op : JumpOp) (p : Processor) → length (linked op p).registers ≡ length p.registers
 linked_size B p = refl
 linked_size Call p = length-set p.registers 29 _
-
-linked_enable : (op : JumpOp) (p : Processor) → (linked op p).status.enable ≡ p.status.enable
-linked_enable B p = refl
-linked_enable Call p = refl
 
 is_ie : Csr → Bool
 is_ie Ie = true
@@ -136,8 +132,8 @@ done_keeps r s =
     (λ op offset. record {
       registers = linked_registers op s.cpu;
       size = linked_size op s.cpu;
-      eie = λ _. ap (λ x. x.eie) (linked_enable op s.cpu);
-      bie = λ _. ap (λ x. x.bie) (linked_enable op s.cpu);
+      eie = λ _. ap (λ x. x.enable.eie) (linked_status op s.cpu);
+      bie = λ _. ap (λ x. x.enable.bie) (linked_status op s.cpu);
     })
     (λ csr from. record {
       registers = λ n e. refl;

@@ -1,4 +1,4 @@
-// Loads and stores through the bus.
+// Loads and stores through the bus; base and offset are two parameters, as the instruction has them.
 ghost use Rattle.std.specs.Prelude.{◌≡◌};
 ghost use Rattle.board.specs.Data.{load_size, store_size, loaded, data_address};
 ghost use Rattle.board.specs.Execute.{executed};

@@ -48,7 +48,7 @@ impl<B: Bus> Board<B> {
         Ok((value % 256) as u8)
     }
 
-    /// The register of an index.
+    /// The register of an index: the project's rules number them so.
     pub fn show(&self, index: u32) -> Result<u32, ShowRefused>
         ensures answer { result ≡ show_answer self.now.processor index }
     {

@@ -1,4 +1,4 @@
-// Big-endian numbers in a block of bytes.
+// Big-endian numbers in a block of bytes, by the places of their bytes: a slice made into an array would be no shorter.
 ghost use Rattle.std.specs.Prelude.{◌≡◌, ◌+◌, ◌≤◌, length};
 ghost use Rattle.bus.specs.Block.{bytes_in, patched, word_in, with_word};
 ghost use Rattle.bus.specs.Bytes.{width, number, low_bytes};

@@ -12,7 +12,7 @@ use crate::lanes::{merge, part};
 use crate::line::Line;
 use crate::size::Size;
 
-// What it holds is always what lies below: each call leaves it so.
+// What it holds is always what lies below: each call leaves it so. An address names its line, so an array serves and nothing is searched.
 #[derive(Drop)]
 pub struct Cache<B: Bus> {
     below: B,

@@ -11,7 +11,7 @@ pub enum Kind {
 }
 
 impl Kind {
-    // Whether no tick changes what lies there.
+    // Whether no tick changes what lies there: two of the four kinds, which no `==` tells.
     pub(crate) fn is_steady(self) -> bool
         ensures { result ≡ is_steady self }
     {

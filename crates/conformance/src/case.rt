@@ -2,6 +2,8 @@
 ghost use Rattle.std.specs.Prelude.{◌≡◌, take, slice_set};
 ghost use Rattle.conformance.specs.Ending.{stopping, ending_of, allowed};
 
+use cpu::Stop;
+
 pub(crate) const MEMORY: usize = 4096;
 
 pub(crate) const REGISTERS: usize = 32;
@@ -80,7 +82,11 @@ impl Case<'_> {
     pub(crate) fn ending(&self) -> u32
         ensures value { result ≡ ending_of self.now.name.now }
     {
-        if self.stops() { 8 } else { 0 }
+        if self.stops() {
+            Stop::Reserved.number().into()
+        } else {
+            0
+        }
     }
 
     // Whether its run may make so many steps: all of them, or some before the stop.

@@ -10,7 +10,7 @@ use std::alloc::{AllocError, Global};
 // Nothing, or the values that are not as the case says.
 pub(crate) type Verdict = Result<(), Vec<Difference>>;
 
-// Whether everything is as the case says.
+// Whether everything is as the case says: what decides, and is proved; the list below is for who reads it.
 fn agree(case: &Case<'_>, outcome: &Outcome) -> bool
     ensures { T result ↔ Agrees case.now outcome.now }
 {

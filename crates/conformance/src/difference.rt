@@ -1,5 +1,5 @@
 // A value that is not as the simulator says, and its text.
-use crate::case::{REGISTERS, SHOWN};
+use crate::case::REGISTERS;
 use std::fmt;
 
 #[derive(Clone, Copy)]
@@ -31,10 +31,10 @@ const SPECIAL: [&str; 12] = [
 
 // The name of a register that has no number.
 fn special_name(index: usize) -> &'static str {
-    if index < REGISTERS || index >= SHOWN {
-        return "an index without a register";
+    match index.checked_sub(REGISTERS) {
+        Some(at) if at < SPECIAL.len() => SPECIAL[at],
+        _ => "an index without a register",
     }
-    SPECIAL[index - REGISTERS]
 }
 
 impl fmt::Display for Difference {

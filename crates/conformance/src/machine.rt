@@ -13,7 +13,7 @@ use std::alloc::{AllocError, Global};
 // How many bytes a line of an image has here.
 const WIDTH: usize = 32;
 
-// How a run went: how many steps were done and taken, and what it ended with, 0 or the number of the stop.
+// How a run went, by the numbers that a run answers: how many steps were done and taken, and what it ended with, 0 or the number of the stop.
 #[derive(Clone, Copy)]
 pub(crate) struct Course {
     pub(crate) done: u32,
@@ -38,7 +38,7 @@ pub(crate) struct Outcome {
     pub(crate) memory: Vec<u8>,
 }
 
-// The configuration of `trace`, but for the first EBA and with it the first PC.
+// The configuration of `trace`, but for the first EBA and with it the first PC. By itself: a function over the EBA would have to ask that its low byte is 0.
 fn config() -> Config
     ensures value { result ≡ configuration 0x00101137 0x00000400 0x00000800 }
 {

@@ -115,7 +115,8 @@ fn read_start(values: &str, words: &str, data: &str) -> anyhow::Result<State> {
 fn read_end(start: State, values: &str, data: &str) -> anyhow::Result<State> {
     let mut end = start;
     let values = read_values::<TOLD>(values)?;
-    ensure!(values[PC].is_some(), "END has no PC");
+    // No PC is odd: 1 is none either.
+    ensure!(values[PC].is_some_and(|pc| pc != 1), "END has no PC");
     end.put(&values);
     read_pieces(data, &mut end.memory)?;
     Ok(end)

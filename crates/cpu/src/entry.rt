@@ -25,6 +25,7 @@ impl Exception {
         }
     }
 
+    // By `matches!`: the case carries a value.
     fn is_breakpoint(self) -> bool
         ensures { result ≡ is_breakpoint self }
     {

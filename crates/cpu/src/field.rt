@@ -1,4 +1,4 @@
-// Parts of a word.
+// Parts of a word. `isa` has its own for its fields: it asks for the order of its bounds, and so is no public call.
 ghost use Rattle.std.specs.Prelude.{◌≡◌, ◌/◌, ◌%◌, ◌^◌, ◌<◌};
 ghost use Rattle.cpu.specs.Config.{has_bit};
 

@@ -1,4 +1,4 @@
-// Turns reset values into a configuration, or turns them down.
+// Turns reset values into a configuration, or turns them down. The three numbers are what the project's rules have it asked.
 ghost use Rattle.std.specs.Prelude.{◌≡◌, ◌<◌};
 ghost use Rattle.cpu.specs.Config.{unsupported, too_many, breakpoints_without_debug, unaligned, line_count, breakpoint_count, line_mask, vetted};
 

@@ -2,7 +2,7 @@
 #![tactic(auto)]
 
 use std::{fs, io};
-use tracer::trace_image;
+use tracer::{LONGEST, trace_image};
 
 const NAMES: [&str; 10] = [
     "worked", "branch", "port", "pending", "faults", "remap", "table", "handler", "limit",
@@ -35,6 +35,6 @@ fn main(rt: HostRuntime) -> io::Result<()> {
     for name in NAMES {
         run_example(&rt, name)?;
     }
-    run_filled(&rt, 65536)?;
-    run_filled(&rt, 65537)
+    run_filled(&rt, LONGEST)?;
+    run_filled(&rt, LONGEST + 1)
 }

@@ -69,7 +69,7 @@ pub fn check<B: Bus>(bus: &B, image: &[u8]) -> Result<u32, Refusal>
     ensures answer { answer_in result ≡ checked (memory_in B.Bus.rules (B.Bus.means bus.now)) image.now }
     ensures acceptance { Accepts (memory_in B.Bus.rules (B.Bus.means bus.now)) image.now (answer_in result) }
 {
-    // The lines are taken one by one: where they stop is asked for, and how many there were.
+    // Taken one by one, since where the lines stop is asked for afterwards; counted beside, since the end line states how many data lines there are.
     let mut lines = Lines::new(image);
     let mut count = 0;
     while let Some((place, line)) = lines.next() {

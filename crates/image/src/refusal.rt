@@ -2,9 +2,6 @@
 ghost use Rattle.std.specs.Prelude.{◌≡◌};
 ghost use Rattle.image.specs.Meaning.{cause_number};
 
-use std::error::Error;
-use std::fmt;
-
 // A line has not the form of an image's lines; a byte would not fall on memory; or the end line is missing, miscounts or is not the last.
 #[derive(Clone, Copy, Debug, PartialEq, Eq)]
 pub enum Cause {
@@ -35,22 +32,3 @@ impl Cause {
         Refusal { cause: self, place }
     }
 }
-
-impl fmt::Display for Cause {
-    fn fmt<W: fmt::Write>(&self, f: &mut fmt::Formatter<W>) -> fmt::Result {
-        f.write_str(match self {
-            Cause::Form => "a line of neither form",
-            Cause::Memory => "bytes that do not fall on memory",
-            Cause::Ending => "no end line that counts the data lines and is the last",
-        })
-    }
-}
-
-impl fmt::Display for Refusal {
-    fn fmt<W: fmt::Write>(&self, f: &mut fmt::Formatter<W>) -> fmt::Result {
-        let Refusal { cause, place } = *self;
-        write!(f, "{cause}, at byte {place}")
-    }
-}
-
-impl Error for Refusal {}

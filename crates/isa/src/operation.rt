@@ -92,6 +92,7 @@ pub enum RegisterOp {
     Divide(DivideOp),
 }
 
+// Nothing compares two of these, and comparing would lengthen the check.
 #[derive(Clone, Copy)]
 pub enum Operation {
     Immediate(ImmediateOp),

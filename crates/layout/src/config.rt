@@ -4,6 +4,9 @@ ghost use Rattle.cpu.specs.Config.{configuration};
 
 use cpu::{Config, vet};
 
+// What every general register holds at first.
+pub const FIRST_REGISTERS: [u32; 32] = [0xA5A5_A5A5; 32];
+
 pub fn board_config() -> Config
     ensures value { result ≡ configuration 0x00101137 0x00000000 0x00000800 }
 {

@@ -5,4 +5,4 @@ mod bus_of_board;
 mod config;
 
 pub use bus_of_board::{BoardBus, board_bus};
-pub use config::board_config;
+pub use config::{FIRST_REGISTERS, board_config};

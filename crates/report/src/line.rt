@@ -43,7 +43,7 @@ pub fn end_line(heap: Global, done: u64, taken: u64) -> Result<String, AllocErro
     format!(in heap; "end,{done},{taken}\n")
 }
 
-// An image was turned down: the refusal's number, and the place in the image.
+// An image was turned down: the refusal's number, as a field of the text, and the place in the image.
 pub fn refusal_line(heap: Global, number: u32, place: usize) -> Result<String, AllocError>
     ensures value { IfOk result (λ t. string_bytes t ≡ refusal_text number place) }
 {

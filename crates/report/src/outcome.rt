@@ -1,4 +1,4 @@
-// How a step ended, and what it gave.
+// How a step ended, and what it gave: numbers, as the fields of a line say them, where an `Answer` names a fault too. Its cases carry values, so the tests are by `matches!`.
 ghost use Rattle.std.specs.Prelude.{◌≡◌};
 ghost use Rattle.report.specs.Outcomes.{letter, value_of, is_done, is_taken, is_stopped, outcome_of};
 
@@ -43,7 +43,7 @@ impl Outcome {
         matches!(self, Outcome::Stopped(_))
     }
 
-    pub(crate) fn letter(self) -> &'static str
+    pub fn letter(self) -> &'static str
         ensures value { result.now ≡ letter self }
     {
         match self {
@@ -53,7 +53,7 @@ impl Outcome {
         }
     }
 
-    pub(crate) fn value(self) -> u32
+    pub fn value(self) -> u32
         ensures value { result ≡ value_of self }
     {
         match self {

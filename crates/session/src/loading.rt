@@ -1,4 +1,4 @@
-// The image of a call: read from its file, and lent to the script.
+// The image of a call: read from its file, and lent to the script. Two matches, since one takes the image and the other lends it.
 ghost use Rattle.std.specs.Prelude.{◌≡◌, IfOk, IfErr, Ok, Err};
 ghost use Rattle.script.specs.declared.call.Call.TheVariants.{Load};
 ghost use Rattle.session.specs.Image.{ForImage, Maps};

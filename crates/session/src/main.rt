@@ -6,7 +6,7 @@ mod reading;
 mod replies;
 
 use anyhow::{Context, anyhow};
-use layout::{board_bus, board_config};
+use layout::{FIRST_REGISTERS, board_bus, board_config};
 use loading::{lend, try_map_image};
 use reading::read_call;
 use replies::Told;
@@ -32,7 +32,7 @@ fn play_text(rt: &HostRuntime, text: &str) -> anyhow::Result<()> {
     let (replies, _board) = play(
         heap,
         board_config(),
-        [0xA5A5_A5A5; 32],
+        FIRST_REGISTERS,
         board_bus(heap)?,
         &calls,
     )?;

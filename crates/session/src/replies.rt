@@ -1,5 +1,5 @@
 // A line for each reply: the call, and what it answered, or why it was turned down.
-use cpu::Answer;
+use report::Outcome;
 use script::Reply;
 use std::fmt;
 
@@ -27,11 +27,10 @@ impl fmt::Display for Told {
             }
             Reply::Show(Ok(value)) => write!(f, "show,{value:08X}"),
             Reply::Show(Err(refused)) => write!(f, "show,refused,{}", refused.number()),
-            Reply::Step(Answer::Done(word)) => write!(f, "step,D,{word:08X}"),
-            Reply::Step(Answer::Taken(exception)) => {
-                write!(f, "step,X,{:08X}", exception.number())
+            Reply::Step(answer) => {
+                let outcome = Outcome::from(answer);
+                write!(f, "step,{},{:08X}", outcome.letter(), outcome.value())
             }
-            Reply::Step(Answer::Stopped { stop, .. }) => write!(f, "step,S,{:08X}", stop.number()),
             Reply::Run {
                 done,
                 taken,

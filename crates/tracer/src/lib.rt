@@ -6,5 +6,6 @@ mod refusal;
 mod stepping;
 mod whole;
 
+pub use refusal::LONGEST;
 pub use stepping::steps;
 pub use whole::{trace_image, trace_on};

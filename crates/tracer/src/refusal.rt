@@ -4,7 +4,7 @@ ghost use Rattle.tracer.specs.Refusals.{number_of, place_of};
 ghost use Rattle.tracer.specs.declared.refusal.Refusal.TheVariants.{Image};
 
 // How many bytes an image may have.
-pub(crate) const LONGEST: usize = 65536;
+pub const LONGEST: usize = 65536;
 
 /// The image has more bytes than `LONGEST` and was not looked at; or the board turned it down.
 #[derive(Clone, Copy)]
@@ -22,6 +22,7 @@ impl From<image::Refusal> for Refusal {
 }
 
 impl Refusal {
+    // A method, and no `From`: it is asked for by that name.
     pub(crate) fn number(self) -> u32
         ensures value { result ≡ number_of self }
     {

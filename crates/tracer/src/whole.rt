@@ -7,7 +7,7 @@ use crate::loading::load;
 use crate::stepping::steps;
 use board::Board;
 use bus::Bus;
-use layout::{board_bus, board_config};
+use layout::{FIRST_REGISTERS, board_bus, board_config};
 use report::{refusal_line, trace};
 use std::alloc::{AllocError, Global};
 
@@ -17,7 +17,7 @@ const BUDGET: u32 = 64;
 pub fn trace_on<B: Bus + Drop>(heap: Global, bus: B, image: &[u8]) -> Result<String, AllocError>
     ensures value { IfOk result (λ t. string_bytes t ≡ trace_on B.Bus.rules (B.Bus.means bus) image.now) }
 {
-    let mut board = Board::power(board_config(), [0xA5A5_A5A5; 32], bus);
+    let mut board = Board::power(board_config(), FIRST_REGISTERS, bus);
     match load(&mut board, image) {
         Ok(_) => {
             let lines = steps(heap, &mut board, BUDGET)?;
