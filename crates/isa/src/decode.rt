@@ -45,7 +45,7 @@ fn read(word: u32) -> Option<Instruction>
 }
 
 impl Instruction {
-    /// The instruction that a word is, or the refusal of a reserved word.
+    /// The instruction that a word is, or the refusal of a reserved word. A method, as `encode` is.
     pub fn decode(word: u32) -> Result<Instruction, Reserved>
         ensures answer { result ≡ ok_or (decoded word) refusal }
         ensures cases { MatchResult result (λ i. decoded word ≡ Some i) (λ _. decoded word ≡ None) }

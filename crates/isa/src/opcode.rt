@@ -1,4 +1,4 @@
-// The opcode of an operation, and the operation that an opcode names.
+// The opcode of an operation, and the operation that an opcode names. Methods, and no `From`, as of `Operation`; each says that the opcode is below 64, since each is a step of the one above it.
 ghost use Rattle.std.specs.Prelude.{◌≡◌, ℕ, ◌<◌, Some};
 ghost use Rattle.isa.specs.Opcodes.{named};
 
