@@ -3,31 +3,32 @@
 
 mod loading;
 mod reading;
+mod refusal;
 mod replies;
 
-use anyhow::{Context, anyhow};
 use layout::{FIRST_REGISTERS, board_bus, board_config};
 use loading::{lend, try_map_image};
 use reading::read_call;
+use refusal::LineRefused;
 use replies::Told;
-use script::{Call, play};
+use script::{Call, Reply, play};
 use std::fs;
 use std::io::Read;
 
 // The call of a line, with the bytes of the image that it loads.
-fn read_line(rt: &HostRuntime, line: &str) -> anyhow::Result<Call<Vec<u8>>> {
-    let call = read_call(line).context(format_args!("this line is no call: {line}"))?;
+fn read_line<'a>(rt: &HostRuntime, line: &'a str) -> Result<Call<Vec<u8>>, LineRefused<'a>> {
+    let call = read_call(line).ok_or(LineRefused::NoCall(line))?;
     try_map_image(call, |name| {
-        fs::read(rt, name).map_err(|_| anyhow!("this file cannot be read: {name}"))
+        fs::read(rt, name).map_err(|_| LineRefused::NoFile(name))
     })
 }
 
 fn play_text(rt: &HostRuntime, text: &str) -> anyhow::Result<()> {
     let heap = rt.alloc();
-    let script: Vec<Call<Vec<u8>>> = text
-        .lines()
-        .map(|line| read_line(rt, line))
-        .try_collect(heap)?;
+    let mut script = Vec::new(heap);
+    for line in text.lines() {
+        script.push(read_line(rt, line)?)?;
+    }
     let calls: Vec<Call<&[u8]>> = script.iter().map(lend).collect(heap)?;
     let (replies, _board) = play(
         heap,
@@ -37,7 +38,11 @@ fn play_text(rt: &HostRuntime, text: &str) -> anyhow::Result<()> {
         &calls,
     )?;
     for reply in &replies {
-        println!(rt; "{}", Told(*reply))?;
+        match *reply {
+            // Said here too, since a text with nothing to format needs no buffer.
+            Reply::Lines(Ok(())) => println!(rt; "lines")?,
+            told => println!(rt; "{}", Told(told))?,
+        }
     }
     Ok(())
 }
