@@ -37,7 +37,7 @@ pub fn extend(op: ExtendOp, x: u32) -> u32
     ensures value { result ≡ extended op x }
 {
     match op {
-        ExtendOp::Sextb => sign_extend::<8>(x),
-        ExtendOp::Sexth => sign_extend::<16>(x),
+        ExtendOp::Sextb => sign_extend_byte((x % 0x100) as u8),
+        ExtendOp::Sexth => sign_extend_half((x % 0x1_0000) as u16),
     }
 }
