@@ -54,6 +54,8 @@ impl<B: Bus> Board<B> {
         offset: u16,
         to: Register,
     ) -> Result<(), Trouble>
+        requires { B.Bus.sound self.old.bus }
+        ensures sound { B.Bus.sound self.new.bus }
         ensures state { seen B.Bus.means self.new ≡ or_stay (seen B.Bus.means self.old) (executed B.Bus.rules (seen B.Bus.means self.old) (Instruction.Load op base offset to)) }
         ensures answer { result ≡ told (executed B.Bus.rules (seen B.Bus.means self.old) (Instruction.Load op base offset to)) }
     {
@@ -70,6 +72,8 @@ impl<B: Bus> Board<B> {
         offset: u16,
         from: Register,
     ) -> Result<(), Trouble>
+        requires { B.Bus.sound self.old.bus }
+        ensures sound { B.Bus.sound self.new.bus }
         ensures state { seen B.Bus.means self.new ≡ or_stay (seen B.Bus.means self.old) (executed B.Bus.rules (seen B.Bus.means self.old) (Instruction.Store op base offset from)) }
         ensures answer { result ≡ told (executed B.Bus.rules (seen B.Bus.means self.old) (Instruction.Store op base offset from)) }
     {

@@ -41,6 +41,8 @@ impl<B: Bus> Board<B> {
 
     /// The byte at an address, by a read of the bus.
     pub fn look(&mut self, address: u32) -> Result<u8, Fault>
+        requires { B.Bus.sound self.old.bus }
+        ensures sound { B.Bus.sound self.new.bus }
         ensures state { seen B.Bus.means self.new ≡ seen B.Bus.means self.old }
         ensures answer { result ≡ look_answer B.Bus.rules (seen B.Bus.means self.old) address }
     {

@@ -70,6 +70,8 @@ fn raise(op: RaiseOp) -> Trouble
 impl<B: Bus> Board<B> {
     // Does an instruction, or answers what keeps it from being done and leaves the machine as it was.
     pub(crate) fn execute(&mut self, instruction: Instruction) -> Result<(), Trouble>
+        requires { B.Bus.sound self.old.bus }
+        ensures sound { B.Bus.sound self.new.bus }
         ensures state { seen B.Bus.means self.new ≡ or_stay (seen B.Bus.means self.old) (executed B.Bus.rules (seen B.Bus.means self.old) instruction) }
         ensures answer { result ≡ told (executed B.Bus.rules (seen B.Bus.means self.old) instruction) }
     {

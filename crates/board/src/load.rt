@@ -14,9 +14,11 @@ use bus::{Bus, Size};
 use image::{Bytes, Line, Lines, Refusal, check, read_line};
 
 // Puts bytes into memory from `address` on.
-fn put_bytes<B: Bus>(bus: &mut B, address: u32, bytes: Bytes<'_>)
-    requires { on_memory (memory_in B.Bus.rules (B.Bus.means bus.old)) address (bytes_in bytes) ≡ true }
-    ensures { B.Bus.means bus.new ≡ stored_all B.Bus.rules (B.Bus.means bus.old) address (bytes_in bytes.entry) }
+fn put_bytes<B: Bus>(bus: &mut B, address: u32, bytes: Bytes)
+    requires sound { B.Bus.sound bus.old }
+    requires placed { on_memory (memory_in B.Bus.rules (B.Bus.means bus.old)) address (bytes_in bytes) ≡ true }
+    ensures sound { B.Bus.sound bus.new }
+    ensures meaning { B.Bus.means bus.new ≡ stored_all B.Bus.rules (B.Bus.means bus.old) address (bytes_in bytes) }
 {
     for (at, byte) in (u64::from(address)..).zip(bytes) {
         bus.write(Size::Byte, at as u32, u32::from(byte)).unwrap();
@@ -25,8 +27,10 @@ fn put_bytes<B: Bus>(bus: &mut B, address: u32, bytes: Bytes<'_>)
 
 // Puts the bytes of each data line into memory, line by line up to the end line.
 fn put_lines<B: Bus>(bus: &mut B, image: &[u8])
-    requires { AllByRecursion (λ d. on_memory (memory_in B.Bus.rules (B.Bus.means bus.old)) d.address d.bytes ≡ true) (image_data image.now) }
-    ensures { B.Bus.means bus.new ≡ put_data B.Bus.rules (B.Bus.means bus.old) (image_data image.now) }
+    requires sound { B.Bus.sound bus.old }
+    requires placed { AllByRecursion (λ d. on_memory (memory_in B.Bus.rules (B.Bus.means bus.old)) d.address d.bytes ≡ true) (image_data image.now) }
+    ensures sound { B.Bus.sound bus.new }
+    ensures meaning { B.Bus.means bus.new ≡ put_data B.Bus.rules (B.Bus.means bus.old) (image_data image.now) }
 {
     for (_, line) in Lines::new(image) {
         let Some(Line::Data(found)) = read_line(line) else {
@@ -39,6 +43,8 @@ fn put_lines<B: Bus>(bus: &mut B, image: &[u8])
 impl<B: Bus> Board<B> {
     /// Checks an image whole, then puts its bytes into memory line by line, and answers the count of its data lines.
     pub fn load(&mut self, image: &[u8]) -> Result<u32, Refusal>
+        requires { B.Bus.sound self.old.bus }
+        ensures sound { B.Bus.sound self.new.bus }
         ensures state { seen B.Bus.means self.new ≡ loaded_into B.Bus.rules (seen B.Bus.means self.old) image.now }
         ensures answer { answer_in result ≡ load_answer B.Bus.rules (seen B.Bus.means self.old) image.now }
         ensures acceptance { Accepts (memory_in B.Bus.rules (B.Bus.means self.old.bus)) image.now (answer_in result) }

@@ -18,6 +18,8 @@ fn stopped_run(done: u32, taken: u32, stop: Stop) -> (u32, u32, u32)
 impl<B: Bus> Board<B> {
     /// Makes steps until the budget is made or one stops: how many instructions were done, how many exceptions taken, and 0 or the number of the stop.
     pub fn run(&mut self, budget: u32) -> (u32, u32, u32)
+        requires { B.Bus.sound self.old.bus }
+        ensures sound { B.Bus.sound self.new.bus }
         ensures state { seen B.Bus.means self.new ≡ last_from (seen B.Bus.means self.old) (run_steps B.Bus.rules budget (seen B.Bus.means self.old)) }
         ensures done { result.0 ≡ total one_done (run_steps B.Bus.rules budget (seen B.Bus.means self.old)) }
         ensures taken { result.1 ≡ total one_taken (run_steps B.Bus.rules budget (seen B.Bus.means self.old)) }

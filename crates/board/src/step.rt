@@ -20,6 +20,8 @@ use isa::Instruction;
 impl<B: Bus> Board<B> {
     /// A board as power gives it.
     pub fn power(config: Config, registers: [u32; 32], bus: B) -> Board<B>
+        requires { B.Bus.sound bus }
+        ensures sound { B.Bus.sound result.bus }
         ensures state { seen B.Bus.means result ≡ machine (reset config registers) (B.Bus.means bus) }
         ensures aligned { Aligned result.processor }
     {
@@ -38,6 +40,8 @@ impl<B: Bus> Board<B> {
 
     // How a step ends that does not stop: the counter grows, and the bus ticks.
     fn settle(&mut self)
+        requires { B.Bus.sound self.old.bus }
+        ensures sound { B.Bus.sound self.new.bus }
         ensures state { seen B.Bus.means self.new ≡ settled B.Bus.rules (seen B.Bus.means self.old) }
     {
         self.processor.count();
@@ -45,6 +49,8 @@ impl<B: Bus> Board<B> {
     }
 
     fn fetch(&mut self) -> Result<u32, Trouble>
+        requires { B.Bus.sound self.old.bus }
+        ensures sound { B.Bus.sound self.new.bus }
         ensures state { seen B.Bus.means self.new ≡ seen B.Bus.means self.old }
         ensures answer { result ≡ fetched B.Bus.rules (seen B.Bus.means self.old) }
     {
@@ -54,7 +60,9 @@ impl<B: Bus> Board<B> {
 
     // The instruction at PC, where nothing halts the step before it.
     fn ready(&mut self, lines: u32) -> Result<Ready, Halt>
-        requires { lines ≡ pend B.Bus.rules (seen B.Bus.means self.old) }
+        requires sound { B.Bus.sound self.old.bus }
+        requires lines { lines ≡ pend B.Bus.rules (seen B.Bus.means self.old) }
+        ensures sound { B.Bus.sound self.new.bus }
         ensures state { seen B.Bus.means self.new ≡ seen B.Bus.means self.old }
         ensures step { concluded B.Bus.rules (seen B.Bus.means self.old) result ≡ stepped B.Bus.rules (seen B.Bus.means self.old) }
     {
@@ -74,6 +82,8 @@ impl<B: Bus> Board<B> {
 
     // Breaks off at the PC and ends the step.
     fn depart(&mut self, exception: Exception) -> Answer
+        requires { B.Bus.sound self.old.bus }
+        ensures sound { B.Bus.sound self.new.bus }
         ensures state { seen B.Bus.means self.new ≡ departed B.Bus.rules (seen B.Bus.means self.old) exception }
         ensures answer { result ≡ Answer.Taken exception }
     {
@@ -84,6 +94,8 @@ impl<B: Bus> Board<B> {
 
     // The step itself, by its definition.
     fn make_step(&mut self) -> Answer
+        requires { B.Bus.sound self.old.bus }
+        ensures sound { B.Bus.sound self.new.bus }
         ensures state { seen B.Bus.means self.new ≡ (stepped B.Bus.rules (seen B.Bus.means self.old)).1 }
         ensures answer { result ≡ (stepped B.Bus.rules (seen B.Bus.means self.old)).0 }
     {
@@ -112,6 +124,8 @@ impl<B: Bus> Board<B> {
 
     /// One step: an instruction done, an exception taken, or a stop that changes nothing.
     pub fn step(&mut self) -> Answer
+        requires { B.Bus.sound self.old.bus }
+        ensures sound { B.Bus.sound self.new.bus }
         ensures state { seen B.Bus.means self.new ≡ (stepped B.Bus.rules (seen B.Bus.means self.old)).1 }
         ensures answer { result ≡ (stepped B.Bus.rules (seen B.Bus.means self.old)).0 }
         ensures counter { self.new.processor.status.cc ≡ counter_after result self.old.processor.status.cc }

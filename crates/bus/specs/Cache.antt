@@ -1,7 +1,5 @@
 -- What a cache holds: at most one word for each of 256 sets, each the word that lies below.
 use Rattle.std.specs.Prelude.{◌≡◌, ℕ, ◌*◌, ◌/◌, ◌%◌, Bool, true, false, cond, ◌&&◌, List, is_some, is_ok, Some, None, Option, ◌==◌, slice_index_or}
-use Rattle.std.specs.Coded.{Π_prop, Unit-prop}
-use Rattle.std.proofs.Props.{props}
 use Rattle.bus.specs.Bytes.{number}
 use Rattle.bus.specs.Rules.{Rules, bytes_at, read_answer}
 use Rattle.bus.specs.declared.line.Line.{Line}
@@ -48,11 +46,3 @@ module _ {M : Type 0} (r : Rules M) where
   -- whether the word of b is held after a read at a: the word read is, in place of its set's former one
   abbrev pub held_after_read : M → List (Option Line) → Size → ℕ → ℕ → Bool
   held_after_read m ls s a b = cond (keeps m s a && set_of b == set_of a) (b / 4 == a / 4) (is_held ls b)
-
--- what is right of a line has one proof at most, and so what is right of all
-line_prop : {M : Type 0} (r : Rules M) (m : M) (k : ℕ) (l : Option Line) → IsProp (RightLine r m k l)
-line_prop r m k None = Unit-prop
-line_prop r m k (Some l) = Prim.hlevel props
-
-pub right_prop : {M : Type 0} (r : Rules M) (m : M) (ls : List (Option Line)) → IsProp (Right r m ls)
-right_prop r m ls = Π_prop (λ k. line_prop r m k (slice_index_or ls k None))

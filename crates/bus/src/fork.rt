@@ -38,6 +38,8 @@ impl<L: Bus, H: Bus> Bus for Fork<L, H> {
 
     ghost means = { λ f. both f.split (L.Bus.means f.low) (H.Bus.means f.high) };
 
+    ghost sound = { λ f. L.Bus.sound f.low × H.Bus.sound f.high };
+
     ghost lawful = { fork_laws L.Bus.rules H.Bus.rules L.Bus.lawful H.Bus.lawful };
 
     fn kind(&self, address: u32) -> Kind {

@@ -49,6 +49,8 @@ impl<const WRITABLE: bool> Bus for Memory<WRITABLE> {
 
     ghost means = { λ s. s.bytes.items };
 
+    ghost sound = { λ _. Unit {0} };
+
     ghost lawful = { Prim.search rules };
 
     fn kind(&self, address: u32) -> Kind {

@@ -58,6 +58,8 @@ impl Bus for Port {
 
     ghost means = { λ s. record { registers = s.registers; gone = s.gone.items; room = s.room } };
 
+    ghost sound = { λ _. Unit {0} };
+
     ghost lawful = { first_of (Prim.search rules, Prim.grind (arith, Self.row.coded.inj)) };
 
     fn kind(&self, address: u32) -> Kind {

@@ -74,6 +74,8 @@ impl Bus for Timer {
 
     ghost means = { λ s. record { registers = s.registers; line = s.line; high = s.high } };
 
+    ghost sound = { λ _. Unit {0} };
+
     ghost lawful = { first_of (Prim.search rules, Prim.grind (arith, Self.row.coded.inj)) };
 
     fn kind(&self, address: u32) -> Kind {

@@ -1,6 +1,5 @@
 -- What the reader's values stand for.
-use Rattle.std.specs.Prelude.{ℕ, List, [], Some, None, Option, Ok, Err, Result}
-use Rattle.std.specs.Option.{unwrap_or}
+use Rattle.std.specs.Prelude.{ℕ, List, take, drop, Some, None, Option, Ok, Err, Result}
 use Rattle.image.specs.declared.bytes.Bytes.{Bytes}
 use Rattle.image.specs.declared.line.DataLine.{DataLine}
 use Rattle.image.specs.declared.line.Line.{Line}
@@ -10,11 +9,11 @@ use Rattle.image.specs.declared.refusal.Cause.TheVariants.{Form, Memory, Ending}
 use Rattle.image.specs.declared.refusal.Refusal.{Refusal}
 use Rattle.image.specs.Checking.{Answer, accepted, refused}
 use Rattle.image.specs.Format as format
-use Rattle.image.specs.Reading.{Reading, data_line, end_line, malformed, bytes_of}
+use Rattle.image.specs.Reading.{Reading, data_line, end_line, malformed}
 
 -- the bytes that are left to be read
 abbrev pub bytes_in : Bytes → List ℕ
-bytes_in b = unwrap_or (bytes_of b.digits.now) []
+bytes_in b = drop b.next (take b.count b.items)
 
 abbrev pub data_in : DataLine → format.Data
 data_in d = record { address = d.address; bytes = bytes_in d.bytes }

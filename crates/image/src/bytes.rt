@@ -1,16 +1,25 @@
-// The bytes of a data line, read from its pairs of digits as they are asked for.
-ghost use Rattle.std.specs.Prelude.{◌≤◌, length, IsSome};
-ghost use Rattle.image.specs.Reading.{bytes_of};
+// The bytes of a data line, of which there are at most 32.
+ghost use Rattle.std.specs.Prelude.{◌≡◌, ◌≤◌, take, drop};
 
-// At most 32 bytes, which are left to be read.
+// Those from `next` on are left to be given. The line need not stay: its digits are read once, and no slice of it could hold the bytes.
 #[derive(Clone, Copy)]
-pub struct Bytes<'a> {
-    pub(crate) digits: &'a [u8],
-    ghost pairs: { IsSome (bytes_of digits.now) },
-    ghost few: { length digits.now ≤ 64 },
+pub struct Bytes {
+    pub(crate) items: [u8; 32],
+    pub(crate) count: usize,
+    pub(crate) next: usize,
+    ghost few: { count ≤ 32 },
+    ghost within: { next ≤ count },
 }
 
-impl Iterator for Bytes<'_> {
+impl Bytes {
+    pub fn as_slice(&self) -> &[u8]
+        ensures value { result.now ≡ drop self.now.next (take self.now.count self.now.items) }
+    {
+        &self.items[self.next..self.count]
+    }
+}
+
+impl Iterator for Bytes {
     ghost use Rattle.std.specs.Iterator.{YieldsFirst, item_count};
     ghost use Rattle.image.specs.Meaning.{bytes_in};
 
@@ -21,8 +30,8 @@ impl Iterator for Bytes<'_> {
     ghost remaining = { item_count bytes_in };
 
     fn next(&mut self) -> Option<u8> {
-        let (pair, rest) = self.digits.split_first_chunk::<2>()?;
-        self.digits = rest;
-        hex_text::byte(pair[0], pair[1])
+        let byte = *self.as_slice().first()?;
+        self.next += 1;
+        Some(byte)
     }
 }

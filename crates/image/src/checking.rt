@@ -14,6 +14,7 @@ use crate::refusal::{Cause, Refusal};
 use bus::{Bus, Kind};
 
 fn is_memory<B: Bus>(bus: &B, address: u32) -> bool
+    requires { B.Bus.sound bus.now }
     ensures value { result ≡ memory_in B.Bus.rules (B.Bus.means bus.now) address }
 {
     bus.kind(address) == Kind::Memory
@@ -21,8 +22,9 @@ fn is_memory<B: Bus>(bus: &B, address: u32) -> bool
 
 // Whether each of the bytes falls on memory, from `address` on.
 #[tactic(auto, using(crate::proofs::Steps::byte_on, crate::proofs::Steps::byte_past, crate::proofs::Steps::byte_elsewhere))]
-fn on_memory<B: Bus>(bus: &B, address: u32, bytes: Bytes<'_>) -> bool
-    ensures value { result ≡ on_memory (memory_in B.Bus.rules (B.Bus.means bus.now)) address (bytes_in bytes.entry) }
+fn on_memory<B: Bus>(bus: &B, address: u32, bytes: Bytes) -> bool
+    requires { B.Bus.sound bus.now }
+    ensures value { result ≡ on_memory (memory_in B.Bus.rules (B.Bus.means bus.now)) address (bytes_in bytes) }
 {
     for (at, _) in (u64::from(address)..).zip(bytes) {
         if at > u64::from(u32::MAX) || !is_memory(bus, at as u32) {
@@ -66,6 +68,7 @@ fn unended(image: &[u8], place: usize) -> Cause
 // The count of data lines of an image, or why and where it is turned down.
 #[tactic(auto, using(crate::proofs::Acceptance::accepts, crate::proofs::Steps::lines_stop))]
 pub fn check<B: Bus>(bus: &B, image: &[u8]) -> Result<u32, Refusal>
+    requires { B.Bus.sound bus.now }
     ensures answer { answer_in result ≡ checked (memory_in B.Bus.rules (B.Bus.means bus.now)) image.now }
     ensures acceptance { Accepts (memory_in B.Bus.rules (B.Bus.means bus.now)) image.now (answer_in result) }
 {

@@ -3,14 +3,14 @@ use crate::bytes::Bytes;
 
 // Bytes for memory, from `address` on.
 #[derive(Clone, Copy)]
-pub struct DataLine<'a> {
+pub struct DataLine {
     pub address: u32,
-    pub bytes: Bytes<'a>,
+    pub bytes: Bytes,
 }
 
 // A data line, or an end line with its count.
 #[derive(Clone, Copy)]
-pub enum Line<'a> {
-    Data(DataLine<'a>),
+pub enum Line {
+    Data(DataLine),
     End(u32),
 }

@@ -1,7 +1,6 @@
 // Reads a line of an image.
 ghost use Rattle.std.specs.Prelude.{◌≡◌, ◌<◌, true, length};
 ghost use Rattle.std.specs.Option.{option_map};
-ghost use Rattle.hex_text.specs.Digits.{all_hex_digits};
 ghost use Rattle.image.specs.Inverse.{Undoes};
 ghost use Rattle.image.specs.Meaning.{bytes_in, data_in, reading_in};
 ghost use Rattle.image.specs.Reading.{has, starts_data, starts_end, payload, read_data, read_end, read_line};
@@ -9,21 +8,24 @@ ghost use Rattle.image.specs.Reading.{has, starts_data, starts_end, payload, rea
 use crate::bytes::Bytes;
 use crate::line::{DataLine, Line};
 
-fn all_digits(bytes: &[u8]) -> bool
-    ensures value { result ≡ all_hex_digits bytes.now }
-{
-    bytes.iter().all(|byte| hex_text::is_digit(*byte))
-}
-
 // The 1 to 32 bytes that pairs of digits write.
-fn read_bytes(digits: &[u8]) -> Option<Bytes<'_>>
+fn read_bytes(digits: &[u8]) -> Option<Bytes>
     ensures value { option_map bytes_in result ≡ payload digits.now }
 {
-    let count = digits.len();
-    if count % 2 != 0 || count == 0 || count > 64 || !all_digits(digits) {
+    let count = digits.len() / 2;
+    if digits.len() % 2 != 0 || count == 0 || count > 32 {
         return None;
     }
-    Some(Bytes { digits })
+    let mut items = [0; 32];
+    // By place: the bytes are kept at theirs, and each digit is read once.
+    for k in 0..count {
+        items[k] = hex_text::byte(digits[2 * k], digits[2 * k + 1])?;
+    }
+    Some(Bytes {
+        items,
+        count,
+        next: 0,
+    })
 }
 
 // Whether the line has `byte` at `place`.
@@ -50,7 +52,7 @@ fn starts_end(line: &[u8]) -> bool
 }
 
 // A line that begins with M, an address and a comma, and goes on with bytes.
-fn read_data(line: &[u8]) -> Option<DataLine<'_>>
+fn read_data(line: &[u8]) -> Option<DataLine>
     ensures value { option_map data_in result ≡ read_data line.now }
 {
     if !starts_data(line) {
@@ -74,7 +76,7 @@ fn read_end(line: &[u8]) -> Option<u32>
 
 // What the line is, or none where it is malformed. Its line feed does not belong to it.
 #[tactic(auto, using(crate::proofs::Inverse::undoes))]
-pub fn read_line(line: &[u8]) -> Option<Line<'_>>
+pub fn read_line(line: &[u8]) -> Option<Line>
     ensures value { reading_in result ≡ read_line line.now }
     ensures inverse { Undoes line.now (reading_in result) }
 {

@@ -12,6 +12,7 @@ const MEMORY: usize = 4096;
 // The bus as it is first, its memory all zero.
 pub fn board_bus(heap: Global) -> Result<BoardBus, AllocError>
     ensures meaning { IfOk result (λ b. ⟦<BoardBus as Bus>⟧.means b ≡ first_meaning (replicate 4096 0)) }
+    ensures sound { IfOk result ⟦<BoardBus as Bus>⟧.sound }
 {
     let bytes = vec![in heap; 0; MEMORY]?;
     let devices = Fork::new(Timer::new(0), Port::new(heap, 64)?, 16);

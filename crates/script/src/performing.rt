@@ -10,6 +10,8 @@ use bus::Bus;
 
 // Makes a call of a board.
 pub fn perform<B: Bus>(board: &mut Board<B>, call: Call<&[u8]>) -> Reply
+    requires { B.Bus.sound board.old.bus }
+    ensures sound { B.Bus.sound board.new.bus }
     ensures state { seen B.Bus.means board.new ≡ after B.Bus.rules (seen B.Bus.means board.old) (request call.entry) }
     ensures answer { told result ≡ tells B.Bus.rules (seen B.Bus.means board.old) (request call.entry) }
 {

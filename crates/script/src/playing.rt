@@ -20,7 +20,9 @@ pub fn play<B: Bus>(
     bus: B,
     script: &[Call<&[u8]>],
 ) -> Result<(Vec<Reply>, Board<B>), AllocFailed<B>>
+    requires { B.Bus.sound bus }
     ensures promise { IfOk result (λ x. Promise B.Bus.rules (machine (reset config registers) (B.Bus.means bus)) (map request script.now) (map told x.0.items) (seen B.Bus.means x.1)) }
+    ensures sound { IfOk result (λ x. B.Bus.sound x.1.bus) }
     ensures refused { IfErr result (λ y. y.value ≡ bus) }
 {
     let Ok(mut replies) = Vec::with_capacity(heap, script.len()) else {

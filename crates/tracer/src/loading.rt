@@ -11,6 +11,8 @@ use bus::Bus;
 
 // Puts an image into the memory of the board, and answers the count of its data lines.
 pub(crate) fn load<B: Bus>(board: &mut Board<B>, image: &[u8]) -> Result<u32, Refusal>
+    requires { B.Bus.sound board.old.bus }
+    ensures sound { B.Bus.sound board.new.bus }
     ensures state { OnOk result (seen B.Bus.means board.new ≡ loaded_into B.Bus.rules (seen B.Bus.means board.old) image.now) }
     ensures answer { answer_of result ≡ admitted B.Bus.rules (seen B.Bus.means board.old) image.now }
 {

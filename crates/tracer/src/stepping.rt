@@ -11,6 +11,8 @@ use std::alloc::{AllocError, Global};
 
 // Makes a step, and tells it as the line of this number.
 fn step_line<B: Bus>(step: u32, board: &mut Board<B>) -> StepLine
+    requires { B.Bus.sound board.old.bus }
+    ensures sound { B.Bus.sound board.new.bus }
     ensures state { seen B.Bus.means board.new ≡ (stepped B.Bus.rules (seen B.Bus.means board.old)).1 }
     ensures line { result ≡ line_at B.Bus.rules step (seen B.Bus.means board.old) }
 {
@@ -25,6 +27,7 @@ pub fn steps<B: Bus>(
     board: &mut Board<B>,
     budget: u32,
 ) -> Result<Vec<StepLine>, AllocError>
+    requires { B.Bus.sound board.old.bus }
     ensures value { IfOk result (λ v. v.items ≡ lines B.Bus.rules budget 1 (seen B.Bus.means board.old)) }
 {
     let mut found = Vec::new(heap);

@@ -15,6 +15,7 @@ const BUDGET: u32 = 64;
 
 // The text that an image gives on a board with this bus.
 pub fn trace_on<B: Bus + Drop>(heap: Global, bus: B, image: &[u8]) -> Result<String, AllocError>
+    requires { B.Bus.sound bus }
     ensures value { IfOk result (λ t. string_bytes t ≡ trace_on B.Bus.rules (B.Bus.means bus) image.now) }
 {
     let mut board = Board::power(board_config(), FIRST_REGISTERS, bus);

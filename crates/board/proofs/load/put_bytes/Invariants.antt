@@ -8,6 +8,7 @@ use Rattle.board.proofs.load.put_bytes.Given as goal
 
 abbrev pub invariant-loop-at : goal.invariant-loop-at
 invariant-loop-at g l =
-    (stored_all g.B.Bus.rules (g.B.Bus.means l.bus) l.at-iterator.a.start (bytes_in l.at-iterator.b) ≡ stored_all g.B.Bus.rules (g.B.Bus.means l.initial.bus) l.address (bytes_in l.fn.bytes))
+    g.B.Bus.sound l.bus
+    × (stored_all g.B.Bus.rules (g.B.Bus.means l.bus) l.at-iterator.a.start (bytes_in l.at-iterator.b) ≡ stored_all g.B.Bus.rules (g.B.Bus.means l.initial.bus) l.address (bytes_in l.fn.bytes))
     × (on_memory (memory_in g.B.Bus.rules (g.B.Bus.means l.bus)) l.at-iterator.a.start (bytes_in l.at-iterator.b) ≡ true)
     × (l.at-iterator.a.start ≤ 2 ^ 32)

@@ -8,6 +8,7 @@ use Rattle.board.proofs.load.put_lines.Given as goal
 
 abbrev pub invariant-loop-line : goal.invariant-loop-line
 invariant-loop-line g l =
-    (put_data g.B.Bus.rules (g.B.Bus.means l.bus) (data_of (lines_of (drop l.line-iterator.place l.image))) ≡ put_data g.B.Bus.rules (g.B.Bus.means l.initial.bus) (image_data l.image))
+    g.B.Bus.sound l.bus
+    × (put_data g.B.Bus.rules (g.B.Bus.means l.bus) (data_of (lines_of (drop l.line-iterator.place l.image))) ≡ put_data g.B.Bus.rules (g.B.Bus.means l.initial.bus) (image_data l.image))
     × Placed g.B.Bus.rules (g.B.Bus.means l.bus) (data_of (lines_of (drop l.line-iterator.place l.image)))
     × (l.line-iterator.image.now ≡ l.image)

@@ -8,7 +8,7 @@ use Rattle.script.proofs.playing.play.Given as goal
 abbrev pub invariant-loop-call : goal.invariant-loop-call
 invariant-loop-call g l =
     let b = g.B.Bus in
-    (vec_len l.replies ≡ l.call-index) × (length l.script ≤ vec_capacity l.replies)
+    b.sound l.board.bus × (vec_len l.replies ≡ l.call-index) × (length l.script ≤ vec_capacity l.replies)
     × (map told (vec_items l.replies) ++ all_told b.rules (seen b.means l.board) (map request (drop l.call-index l.script))
     ≡ all_told b.rules (seen b.means l.initial.board) (map request l.script))
     × (finally b.rules (seen b.means l.board) (map request (drop l.call-index l.script))

@@ -9,9 +9,11 @@ use Rattle.tracer.proofs.stepping.steps.Goals.{else-loop-step-test, then-loop-st
 pub loop-step-preserved : goal.loop-step-preserved
 loop-step-preserved g c =
     let b = g.B.Bus in
-    let on : is_stopped c.step_line-line.result.outcome ≡ false = sym c.is_stopped.ensures.value ∙ c.if-is_stopped.false in
-    one_more b.rules c.args.budget c.loop-step.step (seen b.means c.loop-step.board) (seen b.means c.step_line-line.new.board) (vec_items c.loop-step.found) (omega arith)
-    c.step_line-line.ensures.line c.step_line-line.ensures.state on c.in_ok-push.ensures.items c.loop-step.invariant
+    let on : is_stopped c.step_line-line.result.outcome ≡ false = sym c.is_stopped.ensures.value ∙ c.if-is_stopped.false in (
+      c.step_line-line.ensures.sound,
+      one_more b.rules c.args.budget c.loop-step.step (seen b.means c.loop-step.board) (seen b.means c.step_line-line.new.board) (vec_items c.loop-step.found) (omega arith)
+          c.step_line-line.ensures.line c.step_line-line.ensures.state on c.in_ok-push.ensures.items c.loop-step.invariant.1,
+    )
 
 pub returns-then-is_stopped : goal.returns-then-is_stopped
 returns-then-is_stopped g c =
@@ -19,7 +21,7 @@ returns-then-is_stopped g c =
     let stop : is_stopped c.step_line-line.result.outcome ≡ true = sym c.is_stopped.ensures.value ∙ c.if-is_stopped.true in
     record {
       value = the_last b.rules c.args.budget c.loop-step.step (seen b.means c.loop-step.board) (vec_items c.loop-step.found) (omega arith)
-          c.step_line-line.ensures.line stop c.in_ok-push.ensures.items c.loop-step.invariant;
+          c.step_line-line.ensures.line stop c.in_ok-push.ensures.items c.loop-step.invariant.1;
     }
 
 pub returns : goal.returns
@@ -28,12 +30,12 @@ returns g c =
     let s = seen b.means c.loop-step.board in
     let k = c.loop-step.step in
     elim c.loop-step-test.branch [
-      | else-loop-step-test w ↦ record { value = ap vec_items w.found-is ∙ no_more b.rules c.args.budget k s (omega arith) c.loop-step.invariant }
+      | else-loop-step-test w ↦ record { value = ap vec_items w.found-is ∙ no_more b.rules c.args.budget k s (omega arith) c.loop-step.invariant.1 }
       | then-loop-step-test+in_ok-push+else-is_stopped+else-step-budget w ↦
           let t = seen b.means w.step_line-line.new.board in
           let on : is_stopped w.step_line-line.result.outcome ≡ false = sym w.is_stopped.ensures.value ∙ w.if-is_stopped.false in
           record {
             value = ap vec_items w.found-is ∙ no_more b.rules c.args.budget (k + 1) t (omega arith)
-                (one_more b.rules c.args.budget k s t (vec_items c.loop-step.found) (omega arith) w.step_line-line.ensures.line w.step_line-line.ensures.state on w.in_ok-push.ensures.items c.loop-step.invariant);
+                (one_more b.rules c.args.budget k s t (vec_items c.loop-step.found) (omega arith) w.step_line-line.ensures.line w.step_line-line.ensures.state on w.in_ok-push.ensures.items c.loop-step.invariant.1);
           }
     ]

@@ -7,4 +7,5 @@ use Rattle.tracer.proofs.stepping.steps.Given as goal
 abbrev pub invariant-loop-step : goal.invariant-loop-step
 invariant-loop-step g l =
     let b = g.B.Bus in
-    vec_items l.found ++ lines b.rules (l.budget + 1 - l.step) l.step (seen b.means l.board) ≡ lines b.rules l.budget 1 (seen b.means l.initial.board)
+    b.sound l.board.bus
+    × (vec_items l.found ++ lines b.rules (l.budget + 1 - l.step) l.step (seen b.means l.board) ≡ lines b.rules l.budget 1 (seen b.means l.initial.board))

@@ -17,6 +17,7 @@ returns g c =
     let made = c.make_step.ensures in
     let counted = step_counts b.rules s in
     record {
+      sound = made.sound;
       state = made.state;
       answer = made.answer;
       counter = ap (λ m. m.cpu.status.cc) made.state ∙ counted.grows ∙ ap (λ a. counter_after a s.cpu.status.cc) (sym made.answer);

@@ -14,7 +14,7 @@ returns-in-Some-clause-answer g c =
     let a = c.args.address in
     let al : a % width s ≡ 0 = eqb-true (a % width s) 0 (sym c.is_aligned.ensures.value ∙ c.if-is_aligned.true) in
     let held : held_word old.lines a ≡ Some c.in-Some.word = sym c.find.ensures ∙ c.in-Some.is in
-    ap Ok c.part.ensures ∙ sym (read_held b.rules g.met.B.Bus.lawful m old.lines s a c.in-Some.word old.right al held)
+    ap Ok c.part.ensures ∙ sym (read_held b.rules g.met.B.Bus.lawful m old.lines s a c.in-Some.word c.requires.1 al held)
 
 pub returns-then-is_steady-clause-answer : goal.returns-then-is_steady-clause-answer
 returns-then-is_steady-clause-answer g c =

@@ -5,8 +5,8 @@ use Rattle.bus.proofs.Holding.{entry, right_written, right_written_free}
 use Rattle.bus.proofs.cache.CacheBus.write.Goals as goal
 
 -- a held word takes the bytes that the write puts below it
-pub invariant_of-self-in-Some-clause-right : goal.invariant_of-self-in-Some-clause-right
-invariant_of-self-in-Some-clause-right g c =
+pub returns-in-Some-clause-sound : goal.returns-in-Some-clause-sound
+returns-in-Some-clause-sound g c =
     let b = g.B.Bus in
     let old = c.args.self.now in
     let m = b.means old.below in
@@ -16,15 +16,15 @@ invariant_of-self-in-Some-clause-right g c =
     let ok : write_answer b.rules m s a ≡ Ok tt = sym c.write.ensures.answer ∙ c.in_ok-write.was in
     let held : held_word old.lines a ≡ Some w = sym c.find-held.ensures ∙ c.in-Some.is in
     let lines = c.keep.ensures ∙ ap (λ x. set old.lines (set_of a) (entry (a / 4) x)) c.merge.ensures in
-    let right = right_written b.rules g.met.B.Bus.lawful m old.lines s a c.args.value w old.right old.sets ok held in
-    subst (λ n. Right b.rules n c.keep.new.lines) (sym c.write.ensures.meaning) (subst (Right b.rules _) (sym lines) right)
+    let right = right_written b.rules g.met.B.Bus.lawful m old.lines s a c.args.value w c.requires.1 old.sets ok held in
+    (c.write.ensures.sound, subst (λ n. Right b.rules n c.keep.new.lines) (sym c.write.ensures.meaning) (subst (Right b.rules _) (sym lines) right))
 
-pub invariant_of-self-in_default-clause-right : goal.invariant_of-self-in_default-clause-right
-invariant_of-self-in_default-clause-right g c =
+pub returns-in_default-clause-sound : goal.returns-in_default-clause-sound
+returns-in_default-clause-sound g c =
     let b = g.B.Bus in
     let old = c.args.self.now in
     let m = b.means old.below in
     let ok : write_answer b.rules m c.args.size c.args.address ≡ Ok tt = sym c.write.ensures.answer ∙ c.in_ok-write.was in
     let held : held_word old.lines c.args.address ≡ None = sym c.find-held.ensures ∙ c.in_default.is in
-    let right = right_written_free b.rules g.met.B.Bus.lawful m old.lines c.args.size c.args.address c.args.value old.right ok held in
-    subst (λ n. Right b.rules n old.lines) (sym c.write.ensures.meaning) right
+    let right = right_written_free b.rules g.met.B.Bus.lawful m old.lines c.args.size c.args.address c.args.value c.requires.1 ok held in
+    (c.write.ensures.sound, subst (λ n. Right b.rules n old.lines) (sym c.write.ensures.meaning) right)
