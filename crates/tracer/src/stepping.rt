@@ -28,6 +28,7 @@ pub fn steps<B: Bus>(
     budget: u32,
 ) -> Result<Vec<StepLine>, AllocError>
     requires { B.Bus.sound board.old.bus }
+    ensures sound { B.Bus.sound board.new.bus }
     ensures value { IfOk result (λ v. v.items ≡ lines B.Bus.rules budget 1 (seen B.Bus.means board.old)) }
 {
     let mut found = Vec::new(heap);
